@@ -1,0 +1,5 @@
+pub mod Align
+pub mod Range
+pub mod Reasons
+pub mod Request
+pub mod Samples
