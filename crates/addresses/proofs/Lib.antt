@@ -11,6 +11,7 @@ pub mod ComputedLaws
 pub mod PoolLaws
 pub mod TableLaws
 pub mod StepLaws
+pub mod WalkLaws
 pub mod GrantLaws
 pub mod ReleaseLaws
 pub mod RequestLaws

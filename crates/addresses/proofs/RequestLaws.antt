@@ -21,7 +21,7 @@ use Rattle.table.specs.Table.{Table}
 use Rattle.table.specs.Table as table
 use Rattle.table.specs.Held as held
 use Rattle.table.specs.Contract as contract
-use Rattle.table.proofs.HeldLaws.{holds-proper}
+use Rattle.table.proofs.Holding.{holds-proper}
 use Rattle.addresses.specs.declared.Answer.the-variants.{Refused}
 use Rattle.addresses.specs.declared.Setup.the-variants.{Ready, Unfit}
 use Rattle.addresses.specs.Meaning.{rowOf, rowFrom}

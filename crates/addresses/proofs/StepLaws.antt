@@ -21,7 +21,7 @@ use Rattle.table.specs.Tiles.{Open, Has}
 use Rattle.table.specs.Tiles as tiles
 use Rattle.table.specs.Table.{Table, withRow}
 use Rattle.table.specs.Held as table
-use Rattle.table.proofs.HeldLaws.{holds-proper}
+use Rattle.table.proofs.Holding.{holds-proper}
 use Rattle.addresses.specs.declared.Answer.the-variants.{Granted, Freed}
 use Rattle.addresses.specs.Meaning.{State, Free, Fits, Sound, window, granting, releasing, rowOf}
 use Rattle.addresses.specs.Operations.{Pool, next, HasRoom}
