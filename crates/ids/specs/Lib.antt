@@ -1,0 +1,5 @@
+pub mod State
+pub mod Runs
+pub mod Layout
+pub mod Held
+pub mod Contract
