@@ -1,5 +1,9 @@
+pub mod Tests
 pub mod States
 pub mod Fresh
 pub mod Refusals
-pub mod Unique
 pub mod Reached
+pub mod Unique
+pub mod RunLaws
+pub mod Futures
+pub mod Chains

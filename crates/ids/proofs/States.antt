@@ -36,10 +36,6 @@ pub decides-map : (b : Bool) {P Q : Type 0} → (P → Q) → (Q → P) → Deci
 decides-map true f g d = f d
 decides-map false f g d = λ q. d (g q)
 
-pub not-granted : (b : Bool) → (b ≡ true → ⊥) → b ≡ false
-not-granted true f = absurd (f refl)
-not-granted false f = refl
-
 -- a digit says which bool it is of
 digit-false : (b : Bool) → asDigit b ≡ 0 → b ≡ false
 digit-false true e = absurd (omega arith)

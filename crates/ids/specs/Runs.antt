@@ -29,6 +29,9 @@ pub record Event : Type 0 where
   pub asked : Operation
   pub answer : Answer
 
+abbrev pub event : Operation → Answer → Event
+event o r = record { asked = o; answer = r }
+
 -- from state s on the events happen one after the other, each answered as is right, and end in state t
 unfoldable pub Runs : State → List Event → State → Type 0
 Runs s [] t = t ≡ s

@@ -12,7 +12,8 @@ use Rattle.bits.proofs.Levels.{put-tail}
 use mathlib.Core.Logic.{inl, inr}
 use Rattle.ranges.proofs.Powers.{proved, refuted}
 use Rattle.ids.specs.State.{State, Within}
-use Rattle.ids.proofs.States.{opened, shut, bit-decides, not-granted, releasing}
+use Rattle.ids.proofs.States.{opened, shut, bit-decides, releasing}
+use Rattle.ids.proofs.Tests.{not-true}
 use Rattle.ids.proofs.Refusals.{no-state, no-header}
 use borrow.Author.Needs.{needs}
 use Rattle.ids.proofs.free.Statement.{statement}
@@ -106,7 +107,7 @@ returns-6 c =
               refl,
               w,
               omega (arith, h .next),
-              not-granted _ (λ g. refuted (c .before .is-set .result) _ (c .if5 .taken)
+              not-true _ (λ g. refuted (c .before .is-set .result) _ (c .if5 .taken)
                   (bit-decides (now (a .mem)) s h (c .before .is-set .result) _ (a .id) (h .low) w (c .before .is-set .ensures)) (w, g)),
             )),
             held,
