@@ -1,8 +1,11 @@
-// The runs of document 01, section 5, a line for each answer; then 10,000 ids, which take three
-// levels: all are granted in order, some are freed, and the lowest come back first.
+// Runs of the id allocator, a line for each answer: every answer that there is, on small intervals and at
+// the end of the 32-bit numbers; memory that holds no allocator; and 10,000 ids, which take three levels.
 use ids::Answer;
 use ids::Setup;
 use ranges::Error;
+
+// Stands for `allocate` in a list of operations; a smaller number is an id to free.
+const NEW: u64 = 0x1_0000_0000;
 
 fn name(e: Error) {
     match e {
@@ -19,22 +22,54 @@ fn name(e: Error) {
     ;
 }
 
+fn number(n: u64) {
+    io::print_decimal(1, n);
+    io::write_all(1, b"\n");
+}
+
 fn show(a: Answer) {
     match a {
-        Answer::Id(i) => {
-            io::print_decimal(1, i as u64);
-            io::write_all(1, b"\n");
-        }
+        Answer::Id(i) => number(i as u64),
         Answer::Refused(e) => name(e),
     }
 }
 
-fn made(s: Setup) {
-    match s {
+// Makes an allocator, and says whether it was made.
+fn make(mem: &mut [u64], low: u32, high: u32) {
+    io::write_all(1, b"ids ");
+    io::print_decimal(1, low as u64);
+    io::write_all(1, b" to ");
+    io::print_decimal(1, high as u64);
+    io::write_all(1, b", words ");
+    io::print_decimal(1, ids::words_needed(low, high) as u64);
+    match ids::new(mem, low, high) {
         Setup::Ready => {
-            io::write_all(1, b"ready\n");
+            io::write_all(1, b": ready\n");
         }
-        Setup::Unfit(e) => name(e),
+        Setup::Unfit(e) => {
+            io::write_all(1, b": ");
+            name(e);
+        }
+    }
+}
+
+fn step(mem: &mut [u64], what: u64) {
+    if what < NEW {
+        io::write_all(1, b"free ");
+        io::print_decimal(1, what);
+        io::write_all(1, b": ");
+        show(ids::free(mem, what as u32));
+    } else {
+        io::write_all(1, b"allocate: ");
+        show(ids::allocate(mem));
+    }
+}
+
+fn run(mem: &mut [u64], steps: &[u64]) {
+    let mut k = 0;
+    while k < steps.len() {
+        step(mem, steps[k]);
+        k += 1;
     }
 }
 
@@ -53,58 +88,119 @@ fn grants(mem: &mut [u64], from: u32, n: u32) -> u32 {
     good
 }
 
-fn main() {
+// Nine grants, two given back, the lower of which comes first; then each refusal, and all 19 ids.
+fn small() {
     let mut mem = [0u64; 5];
-    made(ids::new(&mut mem, 7, 6));
-    made(ids::new(&mut mem, 0, 64));
-    made(ids::new(&mut mem, 5, 23));
-    show(ids::allocate(&mut mem));
-    show(ids::allocate(&mut mem));
-    show(ids::allocate(&mut mem));
-    show(ids::allocate(&mut mem));
-    show(ids::allocate(&mut mem));
-    show(ids::allocate(&mut mem));
-    show(ids::allocate(&mut mem));
-    show(ids::allocate(&mut mem));
-    show(ids::allocate(&mut mem));
-    show(ids::free(&mut mem, 10));
-    show(ids::free(&mut mem, 10));
-    show(ids::free(&mut mem, 9));
-    show(ids::allocate(&mut mem));
-    show(ids::free(&mut mem, 21));
-    show(ids::free(&mut mem, 14));
-    show(ids::free(&mut mem, 3));
-    show(ids::allocate(&mut mem));
-    show(ids::allocate(&mut mem));
-    show(ids::allocate(&mut mem));
-    show(ids::allocate(&mut mem));
-    show(ids::allocate(&mut mem));
-    show(ids::allocate(&mut mem));
-    show(ids::allocate(&mut mem));
-    show(ids::allocate(&mut mem));
-    show(ids::allocate(&mut mem));
-    show(ids::allocate(&mut mem));
-    show(ids::allocate(&mut mem));
-    show(ids::allocate(&mut mem));
-    made(ids::new(&mut mem, 0xffff_fffe, 0xffff_ffff));
-    show(ids::allocate(&mut mem));
-    show(ids::allocate(&mut mem));
-    show(ids::allocate(&mut mem));
+    make(&mut mem, 7, 6);
+    make(&mut mem, 23, 5);
+    make(&mut mem, 0, 64);
+    make(&mut mem, 5, 23);
+    run(
+        &mut mem,
+        &[
+            5,
+            NEW,
+            NEW,
+            NEW,
+            8,
+            NEW,
+            NEW,
+            NEW,
+            NEW,
+            NEW,
+            NEW,
+            10,
+            10,
+            9,
+            NEW,
+            21,
+            14,
+            3,
+            24,
+        ],
+    );
+    run(
+        &mut mem,
+        &[
+            NEW,
+            NEW,
+            NEW,
+            NEW,
+            NEW,
+            NEW,
+            NEW,
+            NEW,
+            NEW,
+            NEW,
+            NEW,
+            NEW,
+            23,
+            NEW,
+            NEW,
+        ],
+    );
+    make(&mut mem, 7, 7);
+    run(&mut mem, &[NEW, NEW, 7, 7, NEW]);
+}
+
+// Up to 2^32 - 1, where there is no next number.
+fn end() {
+    let mut mem = [0u64; 5];
+    make(&mut mem, 0xffff_fffe, 0xffff_ffff);
+    run(
+        &mut mem,
+        &[
+            NEW,
+            NEW,
+            NEW,
+            0xffff_ffff,
+            0xffff_ffff,
+            NEW,
+            NEW,
+            0xffff_fffd,
+        ],
+    );
+}
+
+// Memory that holds no allocator: too short for a header, zeros, another mark, and too short for its interval.
+fn none() {
+    let mut short = [0u64; 3];
+    run(&mut short, &[NEW, 5]);
+    let mut mem = [0u64; 8];
+    run(&mut mem, &[NEW, 0]);
+    make(&mut mem, 0, 64);
+    mem[2] = 1000;
+    run(&mut mem, &[NEW, 0]);
+    mem[2] = 64;
+    run(&mut mem, &[NEW, 0]);
+    mem[0] = 1;
+    run(&mut mem, &[NEW, 0]);
+}
+
+fn main() {
+    small();
+    end();
+    none();
     let mut many = [0u64; 165];
-    made(ids::new(&mut many, 100, 10099));
-    show(Answer::Id(grants(&mut many, 100, 10000)));
-    show(ids::allocate(&mut many));
-    show(ids::free(&mut many, 5100));
-    show(ids::free(&mut many, 10099));
-    show(ids::free(&mut many, 4196));
-    show(ids::free(&mut many, 164));
-    show(ids::free(&mut many, 163));
-    show(ids::free(&mut many, 4195));
-    show(ids::allocate(&mut many));
-    show(ids::allocate(&mut many));
-    show(ids::allocate(&mut many));
-    show(ids::allocate(&mut many));
-    show(ids::allocate(&mut many));
-    show(ids::allocate(&mut many));
-    show(ids::allocate(&mut many));
+    make(&mut many, 100, 10099);
+    number(grants(&mut many, 100, 10000) as u64);
+    run(
+        &mut many,
+        &[
+            NEW,
+            5100,
+            10099,
+            4196,
+            164,
+            163,
+            4195,
+            NEW,
+            NEW,
+            NEW,
+            NEW,
+            NEW,
+            NEW,
+            NEW,
+        ],
+    );
 }
