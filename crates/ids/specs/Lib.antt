@@ -3,3 +3,4 @@ pub mod Runs
 pub mod Layout
 pub mod Held
 pub mod Contract
+pub mod Samples
