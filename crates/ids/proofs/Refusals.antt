@@ -10,13 +10,13 @@ use Rattle.ids.specs.declared.Last.{Last}
 use Rattle.ids.specs.declared.Last.the-variants.{Bit, Missing}
 use Rattle.ids.specs.State.{State}
 use Rattle.ids.specs.Runs.{Operation}
-use Rattle.ids.specs.Layout.{Headed, LastBit, Laid}
+use Rattle.ids.specs.Layout.{Headed, LastBit, Laid, Holds}
 use Rattle.ids.specs.Contract.{Performs}
-use Rattle.ids.proofs.States.{opened}
 
 -- a block that holds no state may refuse anything for any reason
 pub no-state : {m : List ℕ} {o : Operation} {e : Error} → ((s : State) → Laid m s → ⊥) → Performs m o (Refused e) m
-no-state f = record { kept = refl; right = λ s h. absurd (f s (opened h)) }
+unfolding Holds
+no-state f = record { kept = refl; right = λ s h. absurd (f s h) }
 
 -- the header of a block that holds a state, by its words
 pub headed : (m : List ℕ) (s : State) → Laid m s → Headed (getD m 0 0) (getD m 1 0) (getD m 2 0) (length m - 4)

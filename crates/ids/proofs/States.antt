@@ -1,5 +1,4 @@
 -- From the bits to the state: what the lowest zero bit says of the free ids, and what one bit changed makes of the state.
---     opened, shut                  what `Holds` says, for this crate's proofs alone
 --     no-free, least-free           the two answers of `find`
 --     laid-grant, laid-release    the memory after a grant and after a release
 -- Assumes nothing.
@@ -21,15 +20,7 @@ use Rattle.bits.proofs.Levels.{same?, front-kept, back-there, mid-tail}
 use Rattle.bits.proofs.Rooms.{summed-words}
 use Rattle.ids.specs.declared.Answer.the-variants.{Id, Refused}
 use Rattle.ids.specs.State.{State, Within, Free, grant, release, Allocates}
-use Rattle.ids.specs.Layout.{asDigit, Headed, Laid, Holds}
-
-pub opened : {ws : List ℕ} {s : State} → Holds ws s → Laid ws s
-unfolding Holds
-opened h = h
-
-pub shut : {ws : List ℕ} {s : State} → Laid ws s → Holds ws s
-unfolding Holds
-shut h = h
+use Rattle.ids.specs.Layout.{asDigit, Headed, Laid}
 
 -- a bool that decides a statement decides one that says the same
 pub decides-map : (b : Bool) {P Q : Type 0} → (P → Q) → (Q → P) → Decides b P → Decides b Q

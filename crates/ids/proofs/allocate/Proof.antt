@@ -7,12 +7,12 @@ use mathlib.Core.List.{List}
 use Prim.Native.Nat.{ℕ, _-_, _≤_}
 use denote.Ref.{now}
 use lib.ListN.{length, getD, set, length-set}
-use Rattle.ids.specs.Layout.{Headed, LastBit, Laid}
+use Rattle.ids.specs.Layout.{Headed, LastBit, Laid, Holds}
 use Rattle.bits.proofs.Levels.{put-tail}
 use borrow.Author.Tests.{eq-eqb, ne-eqb}
 use borrow.Rule.Slice.PartMut.{same-len-mid}
 use Rattle.ids.specs.State.{State, Free, exhausted}
-use Rattle.ids.proofs.States.{opened, shut, no-free, found, flipped, granting}
+use Rattle.ids.proofs.States.{no-free, found, flipped, granting}
 use Rattle.ids.proofs.Refusals.{no-state, no-header}
 use borrow.Author.Needs.{needs}
 use Rattle.ids.proofs.allocate.Statement.{statement}
@@ -83,11 +83,12 @@ same-length : tie.Need-same-length
 same-length c = search needs
 
 returns-3 : tie.Need-returns-3
+unfolding Holds
 returns-3 c =
     record {
       kept = refl;
       right = λ s h. (
-        (none (c .before) s (opened h), sym (ap exhausted (eq-eqb (s .high) _ (sym (opened h .high) ∙ c .if3 .taken)))),
+        (none (c .before) s h, sym (ap exhausted (eq-eqb (s .high) _ (sym (h .high) ∙ c .if3 .taken)))),
         h,
       );
     }
@@ -96,11 +97,12 @@ same-length-2 : tie.Need-same-length-2
 same-length-2 c = search needs
 
 returns-4 : tie.Need-returns-4
+unfolding Holds
 returns-4 c =
     record {
       kept = refl;
       right = λ s h. (
-        (none (c .before) s (opened h), sym (ap exhausted (ne-eqb (s .high) _ (λ e. c .if3 .left (opened h .high ∙ e))))),
+        (none (c .before) s h, sym (ap exhausted (ne-eqb (s .high) _ (λ e. c .if3 .left (h .high ∙ e))))),
         h,
       );
     }
@@ -145,6 +147,7 @@ same-length-3 c =
     same-len-mid 4 (length (set ws 3 x) - 4) (set ws 3 x) (c .before .before .flip .last .0) (c .before .before .flip .kept .0) ∙ length-set ws 3 x
 
 returns-5 : tie.Need-returns-5
+unfolding Holds
 returns-5 c =
     let ws = now (c .before .before .before .before .before .before .before .before .before .before .before .before .before .before .before .before .before .before .before .args .mem) in
     let x = c .before .before .before .before .larger .result in
@@ -153,12 +156,12 @@ returns-5 c =
     record {
       kept = tt;
       right = λ s held.
-          let h = opened held in
+          let h : Laid _ s = held in
           let e = last-is (c .before .before .before .before .before .before .before .before .before .before) s h in
           let k = c .before .before .before .before .before .before .if2 .left in
           let g = granting ws s h _ _ i x up (h .low) e k (found ws s h _ i e (c .before .before .before .before .before .before .before .find .ensures))
           (flipped ws s h _ i x up e k (c .before .before .flip .ensures)) (c .before .before .before .before .larger .ensures) in
-          rw (put-tail 4 (set ws 3 x) up) (g .0, shut (g .1));
+          rw (put-tail 4 (set ws 3 x) up) (g .0, g .1);
     }
 
 pub allocate-spec : {M : Type 1} → statement M

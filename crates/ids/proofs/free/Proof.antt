@@ -7,12 +7,12 @@ use mathlib.Core.List.{List}
 use Prim.Native.Nat.{ℕ, _-_, _≤_}
 use denote.Ref.{now}
 use lib.ListN.{length, getD, set, length-set}
-use Rattle.ids.specs.Layout.{Headed, LastBit, Laid}
+use Rattle.ids.specs.Layout.{Headed, LastBit, Laid, Holds}
 use Rattle.bits.proofs.Levels.{put-tail}
 use mathlib.Core.Logic.{inl, inr}
 use Rattle.ranges.proofs.Powers.{proved, refuted}
 use Rattle.ids.specs.State.{State, Within}
-use Rattle.ids.proofs.States.{opened, shut, bit-decides, releasing}
+use Rattle.ids.proofs.States.{bit-decides, releasing}
 use Rattle.ids.proofs.Tests.{not-true}
 use Rattle.ids.proofs.Refusals.{no-state, no-header}
 use borrow.Author.Needs.{needs}
@@ -59,20 +59,23 @@ returns-2 c =
     no-header (c .before .before .last-bit .result) (c .enum-told .given .1) (c .before .before .last-bit .ensures)
 
 returns-3 : tie.Need-returns-3
-returns-3 c = record { kept = refl; right = λ s h. (inl (refl, λ w. omega (arith, opened h .low, w .0)), h) }
+unfolding Holds
+returns-3 c = record { kept = refl; right = λ s h. (inl (refl, λ w. omega (arith, h .low, w .0)), h) }
 
 returns-4 : tie.Need-returns-4
-returns-4 c = record { kept = refl; right = λ s h. (inl (refl, λ w. omega (arith, opened h .high, w .1)), h) }
+unfolding Holds
+returns-4 c = record { kept = refl; right = λ s h. (inl (refl, λ w. omega (arith, h .high, w .1)), h) }
 
 slice-read-next : tie.Need-slice-read-next
 slice-read-next c = search needs
 
 returns-5 : tie.Need-returns-5
+unfolding Holds
 returns-5 c =
     record {
       kept = refl;
       right = λ s h. (
-        inr (inl (refl, (omega (arith, opened h .low), omega (arith, opened h .high)), omega (arith, opened h .next))),
+        inr (inl (refl, (omega (arith, h .low), omega (arith, h .high)), omega (arith, h .next))),
         h,
       );
     }
@@ -96,12 +99,13 @@ same-length : tie.Need-same-length
 same-length c = search needs
 
 returns-6 : tie.Need-returns-6
+unfolding Holds
 returns-6 c =
     let a = c .before .before .before .before .before .before .before .before .before .before .before .before .before .before .before .before .before .args in
     record {
       kept = refl;
       right = λ s held.
-          let h = opened held in
+          let h : Laid _ s = held in
           let w : Within s (a .id) = (omega (arith, h .low), omega (arith, h .high)) in (
             inr (inr (
               refl,
@@ -130,6 +134,7 @@ same-length-2 : tie.Need-same-length-2
 same-length-2 c = search needs
 
 returns-7 : tie.Need-returns-7
+unfolding Holds
 returns-7 c =
     let a = c .before .before .before .before .before .before .before .before .before .before .before .before .before .before .before .before .before .before .before .before .before .args in
     let ws : List ℕ = now (a .mem) in
@@ -137,13 +142,13 @@ returns-7 c =
     record {
       kept = tt;
       right = λ s held.
-          let h = opened held in
+          let h : Laid _ s = held in
           let w : Within s (a .id) = (omega (arith, h .low), omega (arith, h .high)) in
           let g = proved (c .before .before .before .before .before .is-set .result) _ (c .before .before .before .before .if5 .left)
           (bit-decides ws s h (c .before .before .before .before .before .is-set .result) _ (a .id) (h .low) w (c .before .before .before .before .before .is-set .ensures)) in (
             (refl, w, omega (arith, h .next), g .1),
             rw (put-tail 4 ws up)
-                (shut (releasing ws s h _ _ (a .id) up (last-is (c .before .before .before .before .before .before .before .before .before .before .before .before) s h) w (ap (λ (x : ℕ). a .id - x) (h .low)) (g .1)
+                ((releasing ws s h _ _ (a .id) up (last-is (c .before .before .before .before .before .before .before .before .before .before .before .before) s h) w (ap (λ (x : ℕ). a .id - x) (h .low)) (g .1)
                 (c .before .before .flip .ensures))),
           );
     }

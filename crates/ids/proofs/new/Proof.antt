@@ -9,8 +9,7 @@ use borrow.Rule.Slice.PartMut.{midOf, same-len-mid}
 use denote.Ref.{now}
 use lib.ListN.{length, set, length-set, length-drop}
 use Rattle.bits.proofs.Levels.{mid-tail, put-tail}
-use Rattle.ids.specs.Layout.{kind}
-use Rattle.ids.proofs.States.{shut}
+use Rattle.ids.specs.Layout.{kind, Holds}
 use Rattle.ids.proofs.Fresh.{laid-fresh, needs-some}
 use borrow.Author.Needs.{needs}
 use Rattle.ids.proofs.new.Statement.{statement}
@@ -62,6 +61,7 @@ same-length c =
     same-len-mid 4 (length hs - 4) hs (c .before .before .clear .last .0) (c .before .before .clear .kept .0) ∙ simp length-set
 
 returns-3 : tie.Need-returns-3
+unfolding Holds
 returns-3 c =
     let a = c .before .before .before .before .before .before .before .before .args in
     let ws : List ℕ = now (a .mem) in
@@ -75,7 +75,7 @@ returns-3 c =
       omega arith,
       (4 + n, needs-some (omega arith) w, omega arith),
       rw (put-tail 4 hs zs)
-          (shut (laid-fresh ws (a .low) (a .high) n zs (omega arith) (omega arith) (omega arith) w
+          ((laid-fresh ws (a .low) (a .high) n zs (omega arith) (omega arith) (omega arith) w
           (omega (arith, c .before .before .clear .kept .0)) (c .before .before .clear .ensures enough))),
     )
 
