@@ -148,8 +148,8 @@ returns-7 c =
           (bit-decides ws s h (c .before .before .before .before .before .is-set .result) _ (a .id) (h .low) w (c .before .before .before .before .before .is-set .ensures)) in (
             (refl, w, omega (arith, h .next), g .1),
             rw (put-tail 4 ws up)
-                ((releasing ws s h _ _ (a .id) up (last-is (c .before .before .before .before .before .before .before .before .before .before .before .before) s h) w (ap (λ (x : ℕ). a .id - x) (h .low)) (g .1)
-                (c .before .before .flip .ensures))),
+                (releasing ws s h _ _ (a .id) up (last-is (c .before .before .before .before .before .before .before .before .before .before .before .before) s h) w (ap (λ (x : ℕ). a .id - x) (h .low)) (g .1)
+                (c .before .before .flip .ensures)),
           );
     }
 

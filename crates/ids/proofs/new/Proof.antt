@@ -75,8 +75,8 @@ returns-3 c =
       omega arith,
       (4 + n, needs-some (omega arith) w, omega arith),
       rw (put-tail 4 hs zs)
-          ((laid-fresh ws (a .low) (a .high) n zs (omega arith) (omega arith) (omega arith) w
-          (omega (arith, c .before .before .clear .kept .0)) (c .before .before .clear .ensures enough))),
+          (laid-fresh ws (a .low) (a .high) n zs (omega arith) (omega arith) (omega arith) w
+          (omega (arith, c .before .before .clear .kept .0)) (c .before .before .clear .ensures enough)),
     )
 
 pub new-spec : {M : Type 1} → statement M
