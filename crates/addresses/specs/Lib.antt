@@ -1,0 +1,4 @@
+pub mod Meaning
+pub mod Operations
+pub mod Runs
+pub mod After
