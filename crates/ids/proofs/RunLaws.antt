@@ -16,10 +16,10 @@ use Rattle.ranges.specs.declared.Error.{Error}
 use Rattle.ids.specs.declared.Answer.{Answer}
 use Rattle.ids.specs.declared.Answer.the-variants.{Id, Refused}
 use Rattle.ids.specs.State.{State, Within, Free, fresh, Allocates}
-use Rattle.ids.specs.Runs.{Operation, Does, after, Event, Runs, Grants, Returns, Ever, Stays, Out, After}
+use Rattle.ids.specs.Runs.{Operation, Does, after, Event, Runs, Grants, Returns, Ever, Stays, Out, Valid, After}
 use Rattle.ids.specs.Runs.Operation.{Allocate, Release}
 use Rattle.ids.proofs.Tests.{order, or-true, and-true, or-left, or-right, and-first, and-both, allocate-release, release-allocate, not-refused, same-id, decided, false-true, is-either}
-use Rattle.ids.proofs.Reached.{Reached, reached-fresh, reached-allocated, reached-freed, at-most-next}
+use Rattle.ids.proofs.Validity.{valid-fresh, valid-allocated, valid-freed, at-most-next}
 
 -- ---- a sequence cut in two
 
@@ -46,17 +46,17 @@ runs-interval s t (e ∷ es) r =
     let k = after-interval s (e .asked) (e .answer) in
     (q .0 ∙ k .0, q .1 ∙ k .1)
 
--- ---- every state on the way is one that the operations reach
+-- ---- every state on the way is valid
 
-reached-after : (s : State) (o : Operation) (r : Answer) → Reached s → Does s o r → Reached (after s o r)
-reached-after s Allocate r h d = reached-allocated s r h d
-reached-after s (Release i) r h d = reached-freed s i r h d
+valid-after : (s : State) (o : Operation) (r : Answer) → Valid s → Does s o r → Valid (after s o r)
+valid-after s Allocate r h d = valid-allocated s r h d
+valid-after s (Release i) r h d = valid-freed s i r h d
 
-pub reached-runs : (s t : State) (es : List Event) → Reached s → Runs s es t → Reached t
+pub valid-runs : (s t : State) (es : List Event) → Valid s → Runs s es t → Valid t
 unfolding Runs
-reached-runs s t [] h r = subst Reached (sym r) h
-reached-runs s t (e ∷ es) h r =
-    reached-runs (after s (e .asked) (e .answer)) t es (reached-after s (e .asked) (e .answer) h (r .0)) (r .1)
+valid-runs s t [] h r = subst Valid (sym r) h
+valid-runs s t (e ∷ es) h r =
+    valid-runs (after s (e .asked) (e .answer)) t es (valid-after s (e .asked) (e .answer) h (r .0)) (r .1)
 
 -- ---- what is granted was handed out and not given back since
 
@@ -64,7 +64,7 @@ reached-runs s t (e ∷ es) h r =
 abbrev Remains : State → Operation → Answer → ℕ → Type 0
 Remains s o r i = ((o ≡ Allocate) × (r ≡ Id i)) ⊎ ((s .granted i ≡ true) × (((o ≡ Release i) × (r ≡ Id i)) → ⊥))
 
-step-true : (s : State) (o : Operation) (r : Answer) (i : ℕ) → Does s o r → after s o r .granted i ≡ true → Remains s o r i
+pub step-true : (s : State) (o : Operation) (r : Answer) (i : ℕ) → Does s o r → after s o r .granted i ≡ true → Remains s o r i
 step-true s Allocate (Id k) i d g =
     ⊎-elim
     (λ (q : eqb i k ≡ true). inl (refl, ap Id (sym (eqb-true i k q))))
@@ -82,7 +82,7 @@ step-true s (Release k) (Id l) i d g =
     )
 step-true s (Release k) (Refused e) i d g = inr (g, λ z. not-refused i (z .1))
 
-step-back : (s : State) (o : Operation) (r : Answer) (i : ℕ) → Does s o r → Remains s o r i → after s o r .granted i ≡ true
+pub step-back : (s : State) (o : Operation) (r : Answer) (i : ℕ) → Does s o r → Remains s o r i → after s o r .granted i ≡ true
 step-back s Allocate (Id k) i d (inl q) = or-left (eqb i k) (s .granted i) (eq-eqb i k (sym (same-id k i (q .1))))
 step-back s Allocate (Id k) i d (inr q) = or-right (eqb i k) (s .granted i) (q .0)
 step-back s Allocate (Refused e) i d (inl q) = not-refused i (q .1)
@@ -152,20 +152,20 @@ ever-below s t (e ∷ es) i r (inr v) =
     (omega (arith, b .0, after-interval s (e .asked) (e .answer) .0), b .1)
 
 -- an event that passes an id hands it out
-passed : (s : State) (o : Operation) (r : Answer) (i : ℕ) → Reached s → Does s o r → s .next ≤ i → i < after s o r .next
+passed : (s : State) (o : Operation) (r : Answer) (i : ℕ) → Valid s → Does s o r → s .next ≤ i → i < after s o r .next
     → (o ≡ Allocate) × (r ≡ Id i)
 passed s Allocate (Id k) i h d a b = let m = at-most-next s k h d in let e : k ≡ i = omega arith in (refl, ap Id e)
 passed s Allocate (Refused e) i h d a b = absurd (omega arith)
 passed s (Release k) (Id l) i h d a b = absurd (omega arith)
 passed s (Release k) (Refused e) i h d a b = absurd (omega arith)
 
-pub below-ever : (s t : State) (es : List Event) (i : ℕ) → Reached s → Runs s es t → s .next ≤ i → i < t .next → Ever es i
+pub below-ever : (s t : State) (es : List Event) (i : ℕ) → Valid s → Runs s es t → s .next ≤ i → i < t .next → Ever es i
 unfolding Runs Ever
 below-ever s t [] i h r a b = absurd (let e : t .next ≡ s .next = ap (λ (x : State). x .next) r in omega arith)
 below-ever s t (e ∷ es) i h r a b =
     ⊎-elim
     (λ (k : after s (e .asked) (e .answer) .next ≤ i).
-    inr (below-ever (after s (e .asked) (e .answer)) t es i (reached-after s (e .asked) (e .answer) h (r .0)) (r .1) k b))
+    inr (below-ever (after s (e .asked) (e .answer)) t es i (valid-after s (e .asked) (e .answer) h (r .0)) (r .1) k b))
     (λ (k : i < after s (e .asked) (e .answer) .next). inl (passed s (e .asked) (e .answer) i h (r .0) a k))
     (order (after s (e .asked) (e .answer) .next) i)
 
@@ -191,15 +191,15 @@ granted-before low high es before rest e i t r q g o =
 pub after-runs : (low high : ℕ) (es : List Event) (t : State) → low ≤ high → Runs (fresh low high) es t → After low high es t
 after-runs low high es t h r =
     let same = runs-interval (fresh low high) t es r in
-    let reached = reached-runs (fresh low high) t es (reached-fresh low high h) r in
+    let valid = valid-runs (fresh low high) t es (valid-fresh low high h) r in
     record {
       same-low = same .0;
       same-high = same .1;
       either = λ i w. ⊎-elim (λ f. inl (w, f)) (λ g. inr g) (is-either (t .granted i));
       not-both = λ i f g. false-true (t .granted i) (f .1) g;
-      inside = λ i g. let b = reached .below i g in (b .0, omega (arith, b .1, reached .to-high));
+      inside = λ i g. let b = valid .below i g in (b .0, omega (arith, b .1, valid .to-high));
       out = λ i. decided (t .granted i) (granted-out low high es t r i) (out-granted low high es t r i);
       one-holder = λ before rest e i q g o. granted-before low high es before rest e i t r q g o;
       ever = λ i v. ever-below (fresh low high) t es i r v;
-      all-below = λ i a b. below-ever (fresh low high) t es i (reached-fresh low high h) r a b;
+      all-below = λ i a b. below-ever (fresh low high) t es i (valid-fresh low high h) r a b;
     }

@@ -3,7 +3,7 @@ use mathlib.Core.Path.{_≡_}
 use mathlib.Core.Bool.{true, false}
 use mathlib.Core.List.{List, [], _∷_, _++_}
 use mathlib.Core.Logic.{_⊎_}
-use Prim.Native.Nat.{ℕ, _≤_, _<_}
+use Prim.Native.Nat.{ℕ, _+_, _≤_, _<_}
 use Rattle.ranges.specs.Align.{Decides}
 use Rattle.ids.specs.declared.Answer.{Answer}
 use Rattle.ids.specs.declared.Answer.the-variants.{Id, Refused}
@@ -60,6 +60,19 @@ unfoldable pub Out : List Event → ℕ → Type 0
 unfolding Stays
 Out [] i = ⊥
 Out (e ∷ es) i = (Grants e i × Stays es i) ⊎ Out es i
+
+-- a state that a fresh allocator and some events lead to
+pub record Reached (s : State) : Type 0 where
+  pub ordered : s .low ≤ s .high
+  pub events : List Event
+  pub come : Runs (fresh (s .low) (s .high)) events s
+
+-- what is so of the states that are reached, and of no others: what is granted lies in the interval and below next
+pub record Valid (s : State) : Type 0 where
+  pub ordered : s .low ≤ s .high
+  pub from-low : s .low ≤ s .next
+  pub to-high : s .next ≤ s .high + 1
+  pub below : (j : ℕ) → s .granted j ≡ true → (s .low ≤ j) × (j < s .next)
 
 -- The theorem on sequences: what is so after any events from a fresh allocator of the ids low to high on, which end in state t.
 pub record After (low high : ℕ) (es : List Event) (t : State) : Type 0 where

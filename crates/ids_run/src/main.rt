@@ -8,23 +8,13 @@ use ranges::Error;
 const NEW: u64 = 0x1_0000_0000;
 
 fn name(e: Error) {
-    match e {
-        Error::Overflow => io::write_all(1, b"overflow\n"),
-        Error::InvalidRange => io::write_all(1, b"invalid range\n"),
-        Error::ResourceNotAvailable => io::write_all(1, b"not available\n"),
-        Error::OutOfRange => io::write_all(1, b"out of range\n"),
-        Error::NeverAllocated => io::write_all(1, b"never allocated\n"),
-        Error::AlreadyReleased => io::write_all(1, b"already released\n"),
-        Error::NoRoom => io::write_all(1, b"no room\n"),
-        Error::NoState => io::write_all(1, b"no state\n"),
-        _ => io::write_all(1, b"?\n"),
-    }
-    ;
+    say::reason(e);
+    say::text(b"\n");
 }
 
 fn number(n: u64) {
     io::print_decimal(1, n);
-    io::write_all(1, b"\n");
+    say::text(b"\n");
 }
 
 fn show(a: Answer) {
@@ -36,18 +26,16 @@ fn show(a: Answer) {
 
 // Makes an allocator, and says whether it was made.
 fn make(mem: &mut [u64], low: u32, high: u32) {
-    io::write_all(1, b"ids ");
+    say::text(b"ids ");
     io::print_decimal(1, low as u64);
-    io::write_all(1, b" to ");
+    say::text(b" to ");
     io::print_decimal(1, high as u64);
-    io::write_all(1, b", words ");
+    say::text(b", words ");
     io::print_decimal(1, ids::words_needed(low, high) as u64);
     match ids::new(mem, low, high) {
-        Setup::Ready => {
-            io::write_all(1, b": ready\n");
-        }
+        Setup::Ready => say::text(b": ready\n"),
         Setup::Unfit(e) => {
-            io::write_all(1, b": ");
+            say::text(b": ");
             name(e);
         }
     }
@@ -55,12 +43,12 @@ fn make(mem: &mut [u64], low: u32, high: u32) {
 
 fn step(mem: &mut [u64], what: u64) {
     if what < NEW {
-        io::write_all(1, b"free ");
+        say::text(b"free ");
         io::print_decimal(1, what);
-        io::write_all(1, b": ");
+        say::text(b": ");
         show(ids::free(mem, what as u32));
     } else {
-        io::write_all(1, b"allocate: ");
+        say::text(b"allocate: ");
         show(ids::allocate(mem));
     }
 }
