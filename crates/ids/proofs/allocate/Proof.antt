@@ -142,9 +142,8 @@ cast-t31 c = let h = headed (c .before .before .before .before .before .before .
 
 same-length-3 : tie.Need-same-length-3
 same-length-3 c =
-    let ws = now (c .before .before .before .before .before .before .before .before .before .before .before .before .before .before .before .before .before .before .before .args .mem) in
-    let x = c .before .before .before .before .larger .result in
-    same-len-mid 4 (length (set ws 3 x) - 4) (set ws 3 x) (c .before .before .flip .last .0) (c .before .before .flip .kept .0) ∙ length-set ws 3 x
+    let kept = c .before .before .flip .kept .0 in
+    rw same-len-mid (simp length-set)
 
 returns-5 : tie.Need-returns-5
 unfolding Holds

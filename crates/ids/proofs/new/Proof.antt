@@ -56,9 +56,8 @@ clear-requires c κs = search needs
 
 same-length : tie.Need-same-length
 same-length c =
-    let a = c .before .before .before .before .before .before .before .before .args in
-    let hs : List ℕ = set (set (set (set (now (a .mem)) 0 kind) 1 (a .low)) 2 (a .high)) 3 (a .low) in
-    same-len-mid 4 (length hs - 4) hs (c .before .before .clear .last .0) (c .before .before .clear .kept .0) ∙ simp length-set
+    let kept = c .before .before .clear .kept .0 in
+    rw same-len-mid (simp length-set)
 
 returns-3 : tie.Need-returns-3
 unfolding Holds
