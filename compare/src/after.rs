@@ -1,10 +1,12 @@
 //! What the Rust does after a departure: compared with the account in every state that any operations reach.
 use crate::account;
 use crate::cases::{addresses, Pool};
+use crate::definition::State;
+use crate::departs::departs;
 use crate::oracle::Rust;
 use crate::tally::Tally;
 use crate::words::{Answer, Op, Policy, Tile, M};
-use std::collections::{HashSet, VecDeque};
+use std::collections::{HashMap, HashSet, VecDeque};
 
 fn operations(pool: Pool) -> Vec<Op> {
     let mut ops = Vec::new();
@@ -61,4 +63,39 @@ pub fn departures(pool: Pool, made_up: bool) -> Tally {
         }
     }
     tally
+}
+
+/// The Rust compares trees, not ranges: a shortest pair of sequences, neither with a departure, that lead to the same ranges
+/// and to unequal allocators.
+pub fn unequal_twins(pool: Pool) -> Option<(Vec<Op>, Vec<Op>)> {
+    let mut steps = Vec::new();
+    for size in 1..=pool.size {
+        for policy in [Policy::First, Policy::Last] {
+            steps.push(Op::Allocate { size, align: 1, policy });
+        }
+    }
+    let start = Rust::new(pool.base, pool.size).expect("a pool");
+    let mut known: HashMap<State, (Rust, Vec<Op>)> = HashMap::from([(pool.empty(), (start.clone(), Vec::new()))]);
+    let mut waiting = VecDeque::from([(pool.empty(), start, Vec::new())]);
+    while let Some((state, here, way)) = waiting.pop_front() {
+        let frees = state.granted.iter().map(|r| Op::Free { start: r.0, end: r.1 });
+        for op in steps.iter().copied().chain(frees) {
+            let right = state.answer(&op);
+            if departs(&state, &state.tiles(), &op, right).is_some() {
+                continue;
+            }
+            let (mut now, mut way, after) = (here.clone(), way.clone(), state.next(&op, right));
+            now.run(&op);
+            way.push(op);
+            match known.get(&after) {
+                Some((twin, other)) if *twin != now => return Some((other.clone(), way)),
+                Some(_) => {}
+                None => {
+                    known.insert(after.clone(), (now.clone(), way.clone()));
+                    waiting.push_back((after, now, way));
+                }
+            }
+        }
+    }
+    None
 }

@@ -138,7 +138,7 @@ pub fn random_port<P: PortIds>(made: MakeIds<P>, seed: u64, steps: usize) -> Tal
             Err(_) => {
                 let least = shrink(&ops, |_| Vec::new(), |ops| port_differs(made, lowest, highest, ops).is_err());
                 let why = port_differs(made, lowest, highest, &least).unwrap_err();
-                tally.check(false, || line(&format!("seed {seed}, {}", head(lowest, highest)), &least) + ": " + &why);
+                tally.check(false, || line(&format!("--seed {seed}, {}", head(lowest, highest)), &least) + ": " + &why);
             }
         }
     }
@@ -223,7 +223,7 @@ pub mod beside {
             };
             if differs(&ops).is_some() {
                 let least = shrink(&ops, |_| Vec::new(), |ops| differs(ops).is_some());
-                let head = format!("seed {seed}, {}", head(lowest, highest));
+                let head = format!("--seed {seed}, {}", head(lowest, highest));
                 tally.check(false, || line(&head, &least) + ": " + &differs(&least).unwrap());
             }
         }

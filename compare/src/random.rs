@@ -198,18 +198,18 @@ pub fn plainer(op: &Op) -> Vec<Op> {
     all
 }
 
-/// Random sequences on every large pool, the library against the definition.
+/// Random sequences on every large pool, the library against the definition. Each pool has a seed of its own.
 pub fn port<P: Port>(make: Make<P>, seed: u64, limit: usize, steps: usize) -> Tally {
     let mut tally = Tally::default();
-    for pool in pools() {
-        let ops = sequence(pool, limit, seed, steps);
+    for (i, pool) in pools().into_iter().enumerate() {
+        let ops = sequence(pool, limit, 100 * seed + i as u64, steps);
         tally.count("sequences", 1);
         match port_differs(make, pool, limit, &ops) {
             Ok(n) => tally.compared += n,
             Err(_) => {
                 let least = shrink(&ops, plainer, |ops| port_differs(make, pool, limit, ops).is_err());
                 let why = port_differs(make, pool, limit, &least).unwrap_err();
-                let head = format!("seed {seed}, pool {:#x} size {:#x}, limit {limit}", pool.base, pool.size);
+                let head = format!("--seed {seed}, pool {:#x} size {:#x}, limit {limit}", pool.base, pool.size);
                 tally.check(false, || line(&head, &least) + ": " + &why);
             }
         }
@@ -298,9 +298,9 @@ pub mod beside {
     /// Random sequences on every large pool, the Rust against the definition, and against the account.
     pub fn rust(seed: u64, steps: usize) -> Tally {
         let mut tally = Tally::default();
-        for pool in pools() {
-            let ops = sequence(pool, usize::MAX, seed, steps);
-            let head = format!("seed {seed}, pool {:#x} size {:#x}", pool.base, pool.size);
+        for (i, pool) in pools().into_iter().enumerate() {
+            let ops = sequence(pool, usize::MAX, 100 * seed + i as u64, steps);
+            let head = format!("--seed {seed}, pool {:#x} size {:#x}", pool.base, pool.size);
             tally.count("sequences", 1);
             tally.compared += ops.len() as u64;
             if rust_differs(pool, &ops, &mut tally).is_err() {

@@ -21,13 +21,13 @@ fn candidates(size: u64) -> Vec<Pool> {
     order.iter().map(|i| all[*i]).collect()
 }
 
-/// Operations from the plainest on: small sizes and alignments first.
+/// Operations from the plainest on: no alignment, no address, small sizes first.
 fn plain(pool: Pool) -> Vec<Op> {
     let mut ops = requests(pool, &[1, 2]);
     ops.extend(frees(pool));
     ops.sort_by_key(|op| match op {
-        Op::Allocate { size, align, policy } => (*align, *size, matches!(policy, Policy::Exact(_)) as u8),
-        Op::Free { .. } => (1, 0, 2),
+        Op::Allocate { size, align, policy } => (*align, matches!(policy, Policy::Exact(_)) as u8 * 2, *size),
+        Op::Free { .. } => (1, 1, 0),
     });
     ops
 }
@@ -39,7 +39,8 @@ fn keep<K: Ord>(best: &mut BTreeMap<K, Found>, key: K, found: Found) {
     }
 }
 
-/// The first departure of each class.
+/// For each class the shortest sequence that shows it: up to the departure, and where the answer to that is right, up to
+/// the first answer that is not.
 pub fn of_classes(up_to: u64) -> BTreeMap<Class, Found> {
     let mut best = BTreeMap::new();
     for size in 1..=up_to {
@@ -49,12 +50,20 @@ pub fn of_classes(up_to: u64) -> BTreeMap<Class, Found> {
             for (i, state) in clear.states.iter().enumerate() {
                 let tiles = state.tiles();
                 for (o, op) in ops.iter().enumerate() {
-                    if let Some(class) = departs(state, &tiles, op, state.answer(op)) {
-                        let mut ops = clear.path(i);
-                        ops.push(*op);
-                        let rank = (ops.len(), size, b, o);
-                        keep(&mut best, class, Found { pool, ops, rank });
+                    let right = state.answer(op);
+                    let Some(class) = departs(state, &tiles, op, right) else { continue };
+                    let mut way = clear.path(i);
+                    way.push(*op);
+                    let (got, left) = account::answer(&tiles, op);
+                    if got == right {
+                        let (left, after) = (left.unwrap_or(tiles.clone()), state.next(op, right));
+                        match ops.iter().find(|next| account::answer(&left, next).0 != after.answer(next)) {
+                            Some(next) => way.push(*next),
+                            None => continue,
+                        }
                     }
+                    let rank = (way.len(), size, b, o);
+                    keep(&mut best, class, Found { pool, ops: way, rank });
                 }
             }
         }
