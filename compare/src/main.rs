@@ -74,7 +74,7 @@ impl Driver {
     }
 
     fn seeds(&self, quick: u64) -> Vec<u64> {
-        (self.seed..self.seed + if self.full { 20 * quick } else { quick }).collect()
+        (self.seed..self.seed + if self.full { 5 * quick } else { quick }).collect()
     }
 
     fn answer_file(&self, name: &str) -> String {
