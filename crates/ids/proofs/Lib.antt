@@ -1,0 +1,9 @@
+pub mod Tests
+pub mod States
+pub mod Fresh
+pub mod Refusals
+pub mod Reached
+pub mod Unique
+pub mod RunLaws
+pub mod Futures
+pub mod Chains
