@@ -66,18 +66,18 @@ fn header(mem: &[u64]) -> Head
     if mem[0] != MARK {
         return Head::Bad;
     }
-    let limit = mem[1];
+    let most = mem[1];
     let n = mem[2];
-    if 4096 < limit {
+    if 4096 < most {
         return Head::Bad;
     }
-    if limit < n {
+    if most < n {
         return Head::Bad;
     }
     if n == 0 {
         return Head::Bad;
     }
-    let l = limit as usize;
+    let l = most as usize;
     if len < 5 + l * 2 {
         return Head::Bad;
     }

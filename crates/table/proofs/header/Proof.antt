@@ -17,8 +17,8 @@ returns-2 : tie.Need-returns-2
 unfolding Headed
 returns-2 c = λ s. c .if2 .taken (s .marked)
 
-shared-slice-read-limit : tie.Need-shared-slice-read-limit
-shared-slice-read-limit c = search needs
+shared-slice-read-most : tie.Need-shared-slice-read-most
+shared-slice-read-most c = search needs
 
 shared-slice-read-n : tie.Need-shared-slice-read-n
 shared-slice-read-n c = search needs
@@ -56,7 +56,7 @@ header-spec =
     returns
     shared-slice-read-if2
     returns-2
-    shared-slice-read-limit
+    shared-slice-read-most
     shared-slice-read-n
     returns-3
     returns-4
