@@ -1,12 +1,12 @@
--- `table::grow` meets its contract. Assumes nothing.
+-- `table::block::grow` meets its contract. Assumes nothing.
 use Prim.Native.Nat.{_+_, _-_}
 use mathlib.Core.Path.{refl, _∙_}
 use native.Mathlib.Omega.{arith}
 use lib.ListN.{length-set}
-use Rattle.table.proofs.Block.{grow-turns}
+use Rattle.table.proofs.Lying.{grow-turns}
 use borrow.Author.Needs.{needs}
-use Rattle.table.proofs.grow.Statement.{statement}
-use Rattle.table.proofs.grow.Tie as tie
+use Rattle.table.proofs.block.grow.Statement.{statement}
+use Rattle.table.proofs.block.grow.Tie as tie
 
 add-e : tie.Need-add-e
 add-e c = search needs

@@ -1,12 +1,12 @@
--- `table::highest_in` meets its contract. Assumes nothing.
+-- `table::block::highest_in` meets its contract. Assumes nothing.
 use Prim.Native.Nat.{_+_, _-_}
 use mathlib.Core.Path.{_≡_}
 use Rattle.table.specs.Layout.{countOf}
 use native.Mathlib.Omega.{arith}
-use Rattle.table.proofs.Block.{part-starts, part-tags}
+use Rattle.table.proofs.Lying.{part-starts, part-tags}
 use borrow.Author.Needs.{needs}
-use Rattle.table.proofs.highest_in.Statement.{statement}
-use Rattle.table.proofs.highest_in.Tie as tie
+use Rattle.table.proofs.block.highest_in.Statement.{statement}
+use Rattle.table.proofs.block.highest_in.Tie as tie
 
 shared-slice-read-last : tie.Need-shared-slice-read-last
 shared-slice-read-last c = search needs

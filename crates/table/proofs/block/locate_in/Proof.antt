@@ -1,12 +1,12 @@
--- `table::locate_in` meets its contract. Assumes nothing.
+-- `table::block::locate_in` meets its contract. Assumes nothing.
 use Prim.Native.Nat.{_+_, _-_}
 use native.Mathlib.Omega.{arith}
 use mathlib.Core.Path.{_≡_, refl}
 use Rattle.table.specs.Layout.{limitOf, countOf}
-use Rattle.table.proofs.Block.{part-starts}
+use Rattle.table.proofs.Lying.{part-starts}
 use borrow.Author.Needs.{needs}
-use Rattle.table.proofs.locate_in.Statement.{statement}
-use Rattle.table.proofs.locate_in.Tie as tie
+use Rattle.table.proofs.block.locate_in.Statement.{statement}
+use Rattle.table.proofs.block.locate_in.Tie as tie
 
 add-locate : tie.Need-add-locate
 add-locate c = search needs

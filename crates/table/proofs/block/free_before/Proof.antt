@@ -1,11 +1,11 @@
--- `table::free_before` meets its contract. Assumes nothing.
+-- `table::block::free_before` meets its contract. Assumes nothing.
 use Prim.Native.Nat.{_-_}
 use native.Mathlib.Omega.{arith}
 use Rattle.table.specs.Steps.{Free}
 use Rattle.table.proofs.Melting.{told-with}
 use borrow.Author.Needs.{needs}
-use Rattle.table.proofs.free_before.Statement.{statement}
-use Rattle.table.proofs.free_before.Tie as tie
+use Rattle.table.proofs.block.free_before.Statement.{statement}
+use Rattle.table.proofs.block.free_before.Tie as tie
 
 returns : tie.Need-returns
 returns c = λ f. omega (arith, f .0)

@@ -1,12 +1,12 @@
--- `table::shrink` meets its contract. Assumes nothing.
+-- `table::block::shrink` meets its contract. Assumes nothing.
 use Prim.Native.Nat.{_+_, _-_}
 use mathlib.Core.Path.{refl, _∙_}
 use native.Mathlib.Omega.{arith}
 use lib.ListN.{length-set}
-use Rattle.table.proofs.Block.{shrink-turns}
+use Rattle.table.proofs.Lying.{shrink-turns}
 use borrow.Author.Needs.{needs}
-use Rattle.table.proofs.shrink.Statement.{statement}
-use Rattle.table.proofs.shrink.Tie as tie
+use Rattle.table.proofs.block.shrink.Statement.{statement}
+use Rattle.table.proofs.block.shrink.Tie as tie
 
 add-close : tie.Need-add-close
 add-close c = search needs

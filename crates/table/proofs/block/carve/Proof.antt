@@ -1,15 +1,15 @@
--- `table::carve` meets its contract: each of its ways is a case of Cutting.antt. Assumes nothing.
+-- `table::block::carve` meets its contract: each of its ways is a case of Cutting.antt. Assumes nothing.
 use Prim.Native.Nat.{_+_, _-_}
 use mathlib.Core.Path.{_≡_, refl}
 use native.Mathlib.Omega.{arith}
 use lib.ListN.{getD, length-set}
 use Rattle.table.specs.Layout.{startsOf}
 use Rattle.table.specs.Steps.{Carved}
-use Rattle.table.proofs.Block.{start-at, turned-on, count-row}
+use Rattle.table.proofs.Lying.{start-at, turned-on, count-row}
 use Rattle.table.proofs.Cutting.{ready, grown-length, grown-count, many-both, many-before, many-after, carve-both, carve-before, carve-after, carve-whole}
 use borrow.Author.Needs.{needs}
-use Rattle.table.proofs.carve.Statement.{statement}
-use Rattle.table.proofs.carve.Tie as tie
+use Rattle.table.proofs.block.carve.Statement.{statement}
+use Rattle.table.proofs.block.carve.Tie as tie
 
 add-j : tie.Need-add-j
 add-j c = search needs

@@ -1,14 +1,14 @@
--- `table::melt_at` meets its contract: each of its ways is a case of Melting.antt. Assumes nothing.
+-- `table::block::melt_at` meets its contract: each of its ways is a case of Melting.antt. Assumes nothing.
 use Prim.Native.Nat.{_+_}
 use mathlib.Core.Path.{sym, _∙_}
 use native.Mathlib.Omega.{arith}
 use lib.ListN.{getD, length-set}
-use Rattle.table.proofs.Block.{start-at, count-row}
+use Rattle.table.proofs.Lying.{start-at, count-row}
 use Rattle.table.proofs.Cutting.{ready-all}
 use Rattle.table.proofs.Melting.{told, told-not, melt-both, melt-before, melt-after, melt-none}
 use borrow.Author.Needs.{needs}
-use Rattle.table.proofs.melt_at.Statement.{statement}
-use Rattle.table.proofs.melt_at.Tie as tie
+use Rattle.table.proofs.block.melt_at.Statement.{statement}
+use Rattle.table.proofs.block.melt_at.Tie as tie
 
 add-s : tie.Need-add-s
 add-s c = search needs

@@ -1,10 +1,10 @@
--- `table::header` meets its contract. Assumes nothing.
+-- `table::block::header` meets its contract. Assumes nothing.
 use native.Mathlib.Omega.{arith}
 use mathlib.Core.Path.{refl}
 use Rattle.table.specs.Steps.{Headed}
 use borrow.Author.Needs.{needs}
-use Rattle.table.proofs.header.Statement.{statement}
-use Rattle.table.proofs.header.Tie as tie
+use Rattle.table.proofs.block.header.Statement.{statement}
+use Rattle.table.proofs.block.header.Tie as tie
 
 returns : tie.Need-returns
 unfolding Headed

@@ -1,12 +1,12 @@
--- `table::end_of` meets its contract. Assumes nothing.
+-- `table::block::end_of` meets its contract. Assumes nothing.
 use Prim.Native.Nat.{_+_}
 use mathlib.Core.Path.{sym}
 use native.Mathlib.Omega.{arith}
 use lib.ListN.{getD}
-use Rattle.table.proofs.Block.{start-at, start-past}
+use Rattle.table.proofs.Lying.{start-at, start-past}
 use borrow.Author.Needs.{needs}
-use Rattle.table.proofs.end_of.Statement.{statement}
-use Rattle.table.proofs.end_of.Tie as tie
+use Rattle.table.proofs.block.end_of.Statement.{statement}
+use Rattle.table.proofs.block.end_of.Tie as tie
 
 add-j : tie.Need-add-j
 add-j c = search needs

@@ -1,10 +1,10 @@
--- `table::put` meets its contract. Assumes nothing.
+-- `table::block::put` meets its contract. Assumes nothing.
 use native.Mathlib.Omega.{arith}
 use lib.ListN.{length-set}
-use Rattle.table.proofs.Block.{put-turns}
+use Rattle.table.proofs.Lying.{put-turns}
 use borrow.Author.Needs.{needs}
-use Rattle.table.proofs.put.Statement.{statement}
-use Rattle.table.proofs.put.Tie as tie
+use Rattle.table.proofs.block.put.Statement.{statement}
+use Rattle.table.proofs.block.put.Tie as tie
 
 add-mem : tie.Need-add-mem
 add-mem c = search needs

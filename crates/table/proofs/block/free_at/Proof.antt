@@ -1,10 +1,10 @@
--- `table::free_at` meets its contract. Assumes nothing.
+-- `table::block::free_at` meets its contract. Assumes nothing.
 use mathlib.Core.Path.{sym, _∙_}
 use native.Mathlib.Omega.{arith}
-use Rattle.table.proofs.Block.{tag-at}
+use Rattle.table.proofs.Lying.{tag-at}
 use borrow.Author.Needs.{needs}
-use Rattle.table.proofs.free_at.Statement.{statement}
-use Rattle.table.proofs.free_at.Tie as tie
+use Rattle.table.proofs.block.free_at.Statement.{statement}
+use Rattle.table.proofs.block.free_at.Tie as tie
 
 returns : tie.Need-returns
 returns c = λ f. omega (arith, f .within)
