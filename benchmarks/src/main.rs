@@ -23,8 +23,8 @@ mod sequences;
 mod words;
 
 use maps::{Maps, Sets};
-use play::{play, Run};
-use report::{kind_of_answer, kind_of_id, Figures, Row};
+use play::{play, Run, Times};
+use report::{kind_of_answer, kind_of_id, Row};
 use sequences::{Sequence, Work, BASE, WORKS};
 use words::{Answer, IdAnswer, IdOp, Op};
 
@@ -93,6 +93,26 @@ fn differs<O: std::fmt::Display, A: PartialEq + std::fmt::Display>(s: &Sequence<
     None
 }
 
+/// A sequence and all sides, ready to be played: the times of a run, the kinds of what is timed one by one, and what differed.
+type Job = Box<dyn Fn() -> ([Option<Times>; 3], Vec<&'static str>, Option<String>)>;
+
+/// Makes a job of a sequence.
+fn job<O, A>(s: Sequence<O>, kind: fn(&O, &A) -> &'static str, sides: impl Fn(&Sequence<O>) -> Sides<A> + 'static) -> Job
+where
+    O: std::fmt::Display + 'static,
+    A: PartialEq + std::fmt::Display + 'static,
+{
+    Box::new(move || {
+        let sides = sides(&s);
+        let failure = differs(&s, &sides);
+        let reference = sides[2].as_ref().expect("two BTreeMaps");
+        let answers = &reference.answers[s.warm.len()..];
+        let second = s.ops.len() / 2;
+        let kinds = s.ops.iter().zip(answers).skip(second).map(|(op, answer)| kind(op, answer)).collect();
+        (sides.map(|side| side.map(|run| run.times)), kinds, failure)
+    })
+}
+
 /// What is run: with which ids, how many operations are timed, how often, and the count of what agreed and what did not.
 struct Driver {
     ids: &'static [u32],
@@ -120,57 +140,41 @@ impl Driver {
         }
     }
 
-    /// Plays the sequence to all sides, as often as asked, and compares.
-    fn row<O: std::fmt::Display, A: PartialEq + std::fmt::Display>(
-        &mut self,
-        name: String,
-        s: &Sequence<O>,
-        kinds: impl Fn(&O, &A) -> &'static str,
-        sides: impl Fn() -> Sides<A>,
-    ) -> Row {
-        let mut row = Row { name: name.clone(), least: s.least, most: s.most, figures: Default::default() };
-        let mut runs = Vec::new();
-        let mut failure = None;
-        for _ in 0..self.runs {
-            let sides = sides();
-            failure = failure.or_else(|| differs(s, &sides));
-            runs.push(sides);
-        }
-        let compared = self.runs * (s.warm.len() + s.ops.len());
-        // Two BTreeMaps alone are compared with nothing.
-        if cfg!(any(oracle, port)) {
-            self.verdict(&name, &format!("{compared} operations, {} to {}", s.least, s.most), failure);
-        }
-        let second = s.ops.len() / 2;
-        for side in 0..3 {
-            let of_side: Vec<&Run<A>> = runs.iter().filter_map(|sides| sides[side].as_ref()).collect();
-            let of_rust: Vec<&Run<A>> = runs.iter().filter_map(|sides| sides[0].as_ref()).collect();
-            if of_side.is_empty() {
-                continue;
-            }
-            let of_kind: Vec<&'static str> =
-                (second..s.ops.len()).map(|i| kinds(&s.ops[i], &of_side[0].answers[s.warm.len() + i])).collect();
-            row.figures[side] = Some(Figures::of(&of_side, &of_rust, &of_kind));
-        }
-        row
-    }
-
+    /// Plays every job once a run, so that rows are compared that were timed close to each other.
     fn all(&mut self) -> (Vec<Row>, Vec<Row>) {
-        let (mut addresses, mut of_ids) = (Vec::new(), Vec::new());
+        let (mut rows, mut jobs) = (Vec::new(), Vec::new());
         for work in WORKS {
             for ranges in RANGES {
                 let s = sequences::addresses(work, ranges, 2 * self.count, 1 + ranges as u64);
-                addresses
-                    .push(self.row(format!("{work:?} {ranges}"), &s, kind_of_answer, || address_sides(work, ranges, &s)));
+                rows.push(Row::new(format!("{work:?} {ranges}"), &s));
+                jobs.push(job(s, kind_of_answer, move |s| address_sides(work, ranges, s)));
             }
         }
+        let addresses = rows.len();
         for ids in self.ids {
             for (share, granted) in [("a tenth", ids / 10), ("half", ids / 2), ("all but ten", ids - 10)] {
                 let s = sequences::ids(*ids, granted, 2 * self.count, 1 + *ids as u64);
-                of_ids.push(self.row(format!("ids {ids}, {share}"), &s, kind_of_id, || id_sides(*ids, &s)));
+                rows.push(Row::new(format!("ids {ids}, {share}"), &s));
+                jobs.push(job(s, kind_of_id, move |s| id_sides(*ids, s)));
             }
         }
-        (addresses, of_ids)
+        let mut failures = vec![None; jobs.len()];
+        for _ in 0..self.runs {
+            for ((job, row), failure) in jobs.iter().zip(&mut rows).zip(&mut failures) {
+                let (times, kinds, differs) = job();
+                row.kinds = kinds;
+                row.runs.push(times);
+                *failure = failure.take().or(differs);
+            }
+        }
+        // Two BTreeMaps alone are compared with nothing.
+        if cfg!(any(oracle, port)) {
+            for (row, failure) in rows.iter().zip(failures) {
+                self.verdict(&row.name, &format!("{} operations, {} to {}", row.length, row.least, row.most), failure);
+            }
+        }
+        let ids = rows.split_off(addresses);
+        (rows, ids)
     }
 
     /// Two BTreeMaps that do not melt what is given back with what is free above it must be told from those that do.
@@ -207,12 +211,13 @@ fn main() {
         }
     }
     let (addresses, ids) = driver.all();
+    let clock = play::clock_cost();
     if quick {
         driver.fault();
         let skipped = if driver.skipped > 0 { format!(", {} skipped", driver.skipped) } else { String::new() };
         println!("{} passed, {} failed{skipped}", driver.passed, driver.failed);
     } else {
-        report::tables(&addresses, &ids, RUNS, driver.count);
+        report::tables(&addresses, &ids, RUNS, driver.count, clock);
     }
     std::process::exit((driver.failed > 0) as i32);
 }

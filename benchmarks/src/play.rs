@@ -34,13 +34,18 @@ pub fn median(of: &mut [f64]) -> f64 {
     }
 }
 
-/// One run of one side. The first half of the operations that count is timed as a whole, the second one by one.
-pub struct Run<A> {
-    pub answers: Vec<A>,
+/// What one run of one side took. The first half of the operations that count is timed as a whole, the second one by one.
+pub struct Times {
     /// Nanoseconds of each operation of the first half, on average.
     pub whole: f64,
     /// Nanoseconds of each operation of the second half, with two looks at the clock.
     pub singly: Vec<f64>,
+}
+
+/// One run of one side: its answers, those of warming up too, and its times.
+pub struct Run<A> {
+    pub answers: Vec<A>,
+    pub times: Times,
 }
 
 pub fn play<O, A>(warm: &[O], ops: &[O], mut step: impl FnMut(&O) -> A) -> Run<A> {
@@ -61,5 +66,5 @@ pub fn play<O, A>(warm: &[O], ops: &[O], mut step: impl FnMut(&O) -> A) -> Run<A
         singly.push(before.elapsed().as_nanos() as f64);
         answers.push(answer);
     }
-    Run { answers, whole: spent / whole.len() as f64, singly }
+    Run { answers, times: Times { whole: spent / whole.len() as f64, singly } }
 }

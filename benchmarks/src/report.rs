@@ -1,10 +1,8 @@
 //! The figures of a row of the tables, and the tables, in Markdown.
-use crate::play::{clock_cost, median, Run};
-use crate::sequences::WORKS;
+use crate::play::{median, Times};
+use crate::sequences::{Sequence, WORKS};
 use crate::words::{Answer, IdAnswer, IdOp, Op, Policy};
 use crate::SIDES;
-use std::collections::BTreeMap;
-use std::sync::OnceLock;
 
 const KINDS: [&str; 5] = ["first", "last", "exact", "free", "refused"];
 const ID_KINDS: [&str; 3] = ["allocate", "free", "refused"];
@@ -29,41 +27,56 @@ pub fn kind_of_id(op: &IdOp, answer: &IdAnswer) -> &'static str {
     }
 }
 
-/// What one side took.
-pub struct Figures {
-    /// Nanoseconds an operation: the median of the runs.
-    whole: f64,
-    /// The share of the Rust's time in the same run: the median of the runs; none without the Rust.
-    ratio: Option<f64>,
-    /// For each kind how many operations, and their nanoseconds: of each operation the median of the runs, of those the mean.
-    kinds: BTreeMap<&'static str, (usize, f64)>,
-}
-
-impl Figures {
-    pub fn of<A>(runs: &[&Run<A>], rust: &[&Run<A>], of_kind: &[&'static str]) -> Figures {
-        static CLOCK: OnceLock<f64> = OnceLock::new();
-        let clock = *CLOCK.get_or_init(clock_cost);
-        let mut kinds: BTreeMap<&'static str, (usize, f64)> = BTreeMap::new();
-        for (i, kind) in of_kind.iter().enumerate() {
-            let time = median(&mut runs.iter().map(|run| run.singly[i]).collect::<Vec<_>>()) - clock;
-            let entry = kinds.entry(kind).or_default();
-            *entry = (entry.0 + 1, entry.1 + time.max(0.0));
-        }
-        kinds.values_mut().for_each(|(n, sum)| *sum /= *n as f64);
-        let ratio = || median(&mut runs.iter().zip(rust).map(|(a, b)| a.whole / b.whole).collect::<Vec<_>>());
-        Figures {
-            whole: median(&mut runs.iter().map(|run| run.whole).collect::<Vec<_>>()),
-            ratio: (!rust.is_empty()).then(ratio),
-            kinds,
-        }
-    }
-}
-
+/// A row of the tables: a sequence, and what each side took in each run; none where a side is not linked.
 pub struct Row {
     pub name: String,
+    pub length: usize,
     pub least: usize,
     pub most: usize,
-    pub figures: [Option<Figures>; 3],
+    pub runs: Vec<[Option<Times>; 3]>,
+    /// The kinds of the operations that were timed one by one.
+    pub kinds: Vec<&'static str>,
+}
+
+impl Row {
+    pub fn new<O>(name: String, s: &Sequence<O>) -> Row {
+        let length = s.warm.len() + s.ops.len();
+        Row { name, length, least: s.least, most: s.most, runs: Vec::new(), kinds: Vec::new() }
+    }
+
+    /// The median of the runs of something that is told of a run, where all that it is told of is linked.
+    fn of_runs(&self, tell: impl Fn(&[Option<Times>; 3]) -> Option<f64>) -> Option<f64> {
+        let mut told = self.runs.iter().map(tell).collect::<Option<Vec<f64>>>()?;
+        Some(median(&mut told))
+    }
+
+    /// Nanoseconds an operation.
+    fn whole(&self, side: usize) -> Option<f64> {
+        self.of_runs(|run| Some(run[side].as_ref()?.whole))
+    }
+
+    /// The share of vm-allocator's time in the same run.
+    fn ratio(&self, side: usize) -> Option<f64> {
+        self.of_runs(|run| Some(run[side].as_ref()?.whole / run[0].as_ref()?.whole))
+    }
+
+    /// How many times the time of another row in the same run.
+    fn growth(&self, from: &Row, side: usize) -> Option<f64> {
+        let pairs = self.runs.iter().zip(&from.runs);
+        let mut times =
+            pairs.map(|(a, b)| Some(a[side].as_ref()?.whole / b[side].as_ref()?.whole)).collect::<Option<Vec<f64>>>()?;
+        Some(median(&mut times))
+    }
+
+    /// Nanoseconds of the operations of a kind: of each the median of the runs, of those the mean.
+    fn of_kind(&self, side: usize, kind: &str, clock: f64) -> Option<f64> {
+        let (mut n, mut sum) = (0, 0.0);
+        for i in (0..self.kinds.len()).filter(|i| self.kinds[*i] == kind) {
+            n += 1;
+            sum += (self.of_runs(|run| Some(run[side].as_ref()?.singly[i]))? - clock).max(0.0);
+        }
+        (n > 0).then_some(sum / n as f64)
+    }
 }
 
 fn thousands(number: f64) -> String {
@@ -78,52 +91,46 @@ fn thousands(number: f64) -> String {
     out
 }
 
-fn cell(figures: &Option<Figures>, with_ratio: bool) -> String {
-    match figures {
-        None => "skipped".to_string(),
-        Some(Figures { whole, ratio: Some(ratio), .. }) if with_ratio => format!("{} ({ratio:.2})", thousands(*whole)),
-        Some(figures) => thousands(figures.whole),
-    }
+fn cell(number: Option<f64>) -> String {
+    number.map_or("skipped".to_string(), thousands)
 }
 
 fn whole(title: &str, of: &str, rows: &[Row]) {
-    println!("\n| {title} | {of} | {} | {} | {} |\n|---|---|---|---|---|", SIDES[0], SIDES[1], SIDES[2]);
+    println!("\n| {title} | {of} | {} |\n|---|---|---|---|---|", SIDES.join(" | "));
     for row in rows {
-        let [rust, library, maps] = &row.figures;
-        let (rust, library, maps) = (cell(rust, false), cell(library, true), cell(maps, true));
-        let seen = (thousands(row.least as f64), thousands(row.most as f64));
-        println!("| {} | {} to {} | {rust} | {library} | {maps} |", row.name, seen.0, seen.1);
+        let ratio = |side| row.ratio(side).map_or(String::new(), |ratio| format!(" ({ratio:.2})"));
+        let (rust, library, maps) = (cell(row.whole(0)), cell(row.whole(1)), cell(row.whole(2)));
+        let (least, most) = (thousands(row.least as f64), thousands(row.most as f64));
+        println!("| {} | {least} to {most} | {rust} | {library}{} | {maps}{} |", row.name, ratio(1), ratio(2));
     }
 }
 
-fn by_kind(title: &str, kinds: &[&str], rows: &[Row]) {
-    let wide = "---|".repeat(kinds.len() + 1);
-    println!("\n| {title} | {} |\n|{wide}", kinds.join(" | "));
+fn by_kind(title: &str, kinds: &[&str], rows: &[Row], clock: f64) {
+    println!("\n| {title} | {} |\n|{}", kinds.join(" | "), "---|".repeat(kinds.len() + 1));
     for row in rows {
-        let cells = kinds.iter().map(|kind| {
-            let of = |f: &Option<Figures>| f.as_ref().and_then(|f| f.kinds.get(kind).copied());
-            let Some((n, _)) = row.figures.iter().find_map(of) else { return "".to_string() };
-            let times = row.figures.iter().map(|f| of(f).map_or("-".to_string(), |(_, time)| thousands(time)));
-            format!("{} [{}]", times.collect::<Vec<_>>().join(" / "), thousands(n as f64))
+        let cells = kinds.iter().map(|kind| match row.kinds.iter().filter(|k| *k == kind).count() {
+            0 => String::new(),
+            n => {
+                let times: Vec<String> = (0..3).map(|side| cell(row.of_kind(side, kind, clock))).collect();
+                format!("{} [{}]", times.join(" / "), thousands(n as f64))
+            }
         });
         println!("| {} | {} |", row.name, cells.collect::<Vec<_>>().join(" | "));
     }
 }
 
 fn growth(rows: &[Row]) {
-    println!("\n| 4,000 ranges to 64 | {} | {} | {} |\n|---|---|---|---|", SIDES[0], SIDES[1], SIDES[2]);
+    println!("\n| 4,000 ranges to 64 | {} |\n|---|---|---|---|", SIDES.join(" | "));
     for of_work in rows.chunks(rows.len() / WORKS.len()) {
         let (least, most) = (&of_work[0], &of_work[of_work.len() - 1]);
-        let times = (0..3).map(|side| match (&least.figures[side], &most.figures[side]) {
-            (Some(a), Some(b)) => format!("{:.1}", b.whole / a.whole),
-            _ => "skipped".to_string(),
-        });
+        let times = (0..3).map(|side| most.growth(least, side).map_or("skipped".to_string(), |times| format!("{times:.1}")));
         let name = least.name.split(' ').next().unwrap_or_default();
         println!("| {name} | {} |", times.collect::<Vec<_>>().join(" | "));
     }
 }
 
-pub fn tables(addresses: &[Row], ids: &[Row], runs: usize, count: usize) {
+/// `clock` is what is taken off each operation that was timed by itself.
+pub fn tables(addresses: &[Row], ids: &[Row], runs: usize, count: usize, clock: f64) {
     for work in WORKS {
         println!("- {work:?}: {}.", work.says());
     }
@@ -133,10 +140,13 @@ pub fn tables(addresses: &[Row], ids: &[Row], runs: usize, count: usize) {
     let (count, share) = (thousands(count as f64), "in brackets the share of vm-allocator's time in the same run");
     println!("\nNanoseconds an operation, {count} operations after warming up, medians of {runs} runs; {share}.");
     whole("workload, about so many ranges", "ranges seen", addresses);
-    println!("\nGrowth: how many times the nanoseconds of 64 ranges those of 4,000 are.");
+    println!("\nGrowth: how many times the time at 64 ranges the time at 4,000 is, in the same run.");
     growth(addresses);
     whole("ids, so many granted", "granted", ids);
-    println!("\nNanoseconds by kind, {}; in brackets how many of {count}.", SIDES.join(" / "));
-    by_kind("workload", &KINDS, addresses);
-    by_kind("ids", &ID_KINDS, ids);
+    println!(
+        "\nNanoseconds by kind, {}; in brackets how many of {count}. {clock:.0} ns are taken off for the clock.",
+        SIDES.join(" / ")
+    );
+    by_kind("workload", &KINDS, addresses, clock);
+    by_kind("ids", &ID_KINDS, ids, clock);
 }
