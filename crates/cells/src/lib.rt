@@ -44,23 +44,26 @@ pub fn close(a: &mut [u64], at: usize, by: usize)
     }
 }
 
-// The index of the start at a or last below it, where the starts rise. Goes from the first one on.
+// The index of the start at a or last below it, where the starts rise. By halves.
 pub fn locate(starts: &[u64], a: u64) -> Spot
     ensures { λ r. ⌜ Locates (now (starts .entry)) a r ⌝ }
 {
     let n = starts.len();
-    let mut i: usize = 0;
-    while i < n {
-        if a < starts[i] {
-            if i == 0 {
-                return Spot::Before;
-            }
-            return Spot::At(i - 1);
-        }
-        i = i + 1;
-    }
-    if i == 0 {
+    if n == 0 {
         return Spot::Before;
     }
-    Spot::At(i - 1)
+    if a < starts[0] {
+        return Spot::Before;
+    }
+    let mut lo: usize = 0;
+    let mut hi = n;
+    while 1 < hi - lo {
+        let mid = lo + (hi - lo) / 2;
+        if starts[mid] <= a {
+            lo = mid;
+        } else {
+            hi = mid;
+        }
+    }
+    Spot::At(lo)
 }
