@@ -19,5 +19,6 @@ pub mod RunLaws
 pub mod HistoryLaws
 pub mod ReachLaws
 pub mod CallLaws
+pub mod NeverTwice
 pub mod Samples
 pub mod RunSamples

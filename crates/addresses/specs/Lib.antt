@@ -4,4 +4,5 @@ pub mod Runs
 pub mod After
 pub mod Held
 pub mod Contract
+pub mod NeverTwice
 pub mod Steps

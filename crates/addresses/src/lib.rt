@@ -143,6 +143,7 @@ fn exact(mem: &mut [u64], a: u64, size: u64, align: u64) -> Answer
 // Grants the lowest, the highest, or the named range of `size` addresses from a multiple of the alignment on. Refused, in this
 // order: a request that is not in order, with the reason that `Constraint::new` gives; "overflow" for an exact range whose address
 // is free and whose end would pass 2^64 - 1; "not available" where there is no place; "no room" where the table is full.
+// Of any sequence of calls (`calls-never-twice`): between two grants that share an address the whole range of the first was given back.
 pub fn allocate(mem: &mut [u64], size: u64, align: u64, policy: AllocPolicy) -> Answer
     ensures { λ r. ⌜ Performs (now (mem .entry)) (asking size align policy) r (now (mem .exit)) ⌝ }
 {

@@ -7,4 +7,5 @@ pub mod Unique
 pub mod RunLaws
 pub mod Futures
 pub mod Chains
+pub mod NeverTwice
 pub mod Reachable

@@ -3,4 +3,5 @@ pub mod Runs
 pub mod Layout
 pub mod Held
 pub mod Contract
+pub mod NeverTwice
 pub mod Samples

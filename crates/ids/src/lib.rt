@@ -86,7 +86,8 @@ pub fn new(mem: &mut [u64], low: u32, high: u32) -> Setup
     Setup::Ready
 }
 
-// The lowest id that is not granted, which is granted by this.
+// The lowest id that is not granted, which is granted by this. Of any sequence of calls (`chain-never-twice`): between two grants of
+// one id there was a `free` of it that was answered with the id.
 pub fn allocate(mem: &mut [u64]) -> Answer
     ensures { λ r. ⌜ Performs (now (mem .entry)) Allocate r (now (mem .exit)) ⌝ }
 {
