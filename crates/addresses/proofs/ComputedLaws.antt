@@ -67,14 +67,14 @@ tells-both (passed p) (failed q) = failed (λ w. q (w .1))
 tells-both (failed p) (passed q) = failed (λ w. p (w .0))
 tells-both (failed p) (failed q) = failed (λ w. p (w .0))
 
-tells-either : {P Q : Type 0} {b c : Bool} → Tells P b → Tells Q c → Tells (P ⊎ Q) (either b c)
+pub tells-either : {P Q : Type 0} {b c : Bool} → Tells P b → Tells Q c → Tells (P ⊎ Q) (either b c)
 tells-either (passed p) (passed q) = passed (inl p)
 tells-either (passed p) (failed q) = passed (inl p)
 tells-either (failed p) (passed q) = passed (inr q)
 tells-either (failed p) (failed q) = failed (⊎-elim p q)
 
 -- a test tells the same of what is the same
-tells-iff : {P Q : Type 0} {b : Bool} → (P → Q) → (Q → P) → Tells P b → Tells Q b
+pub tells-iff : {P Q : Type 0} {b : Bool} → (P → Q) → (Q → P) → Tells P b → Tells Q b
 tells-iff f g (passed p) = passed (f p)
 tells-iff f g (failed n) = failed (λ q. n (g q))
 
@@ -137,7 +137,7 @@ tells-room size Ok from top (r ∷ rs) a s k o =
     (tells-either (tells-inside size Ok from (r .start) a k) (tells-room size Ok (suc (r .end)) top rs a s k (o .2)))
 
 -- the window fits where it is named
-tells-fits : (σ : State) (size : ℕ) (Ok : ℕ → Type 0) (a : ℕ) → Sound σ → 0 < size → Ok a → Tells (Fits σ size Ok a) (isOpen (σ .top) a size (rowOf σ))
+pub tells-fits : (σ : State) (size : ℕ) (Ok : ℕ → Type 0) (a : ℕ) → Sound σ → 0 < size → Ok a → Tells (Fits σ size Ok a) (isOpen (σ .top) a size (rowOf σ))
 unfolding rowOf
 tells-fits σ size Ok a o s k = tells-iff (room-fits σ size a o) (fits-room σ size a o s) (tells-room size Ok (σ .base) (σ .top) (σ .granted) a s k (o .ordered))
 

@@ -10,8 +10,14 @@ pub mod Computed
 pub mod ComputedLaws
 pub mod PoolLaws
 pub mod TableLaws
+pub mod StepLaws
+pub mod WalkLaws
+pub mod GrantLaws
+pub mod ReleaseLaws
+pub mod RequestLaws
 pub mod RunLaws
 pub mod HistoryLaws
 pub mod ReachLaws
+pub mod CallLaws
 pub mod Samples
 pub mod RunSamples

@@ -2,3 +2,6 @@ pub mod Meaning
 pub mod Operations
 pub mod Runs
 pub mod After
+pub mod Held
+pub mod Contract
+pub mod Steps

@@ -22,11 +22,11 @@ use Rattle.table.specs.Table.{Table, Proper}
 use Rattle.table.specs.Layout.{rowIn, startsOf, tagsOf, limitOf, countOf, topOf, Sound, Holds}
 use Rattle.table.specs.Contract.{Of, Says, Searchable, FindsLowest, FindsHighest, Shows}
 use Rattle.table.specs.Steps.{Headed}
-use Rattle.table.specs.declared.Head.{Head}
-use Rattle.table.specs.declared.Head.the-variants.{Bad}
+use Rattle.table.specs.declared.block.Head.{Head}
+use Rattle.table.specs.declared.block.Head.the-variants.{Bad}
 use Rattle.table.specs.declared.Place.the-variants as place
 use Rattle.table.specs.declared.Stands.the-variants as stands
-use Rattle.table.proofs.Block.{starts-length, as-many, start-at, start-past, tag-at}
+use Rattle.table.proofs.Lying.{starts-length, as-many, start-at, start-past, tag-at}
 use Rattle.table.proofs.Searching.{low-found, low-nowhere, high-found, high-nowhere}
 use Rattle.table.proofs.Standing.{has-in}
 use Rattle.table.proofs.Holding.{own, of-own, of-none, tileIn, split-in, past-in}

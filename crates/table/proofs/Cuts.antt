@@ -14,10 +14,10 @@ use Rattle.table.specs.Table.{Proper, withRow}
 use Rattle.table.specs.Layout.{rowIn, startsOf, tagsOf, limitOf, countOf, topOf, Sound, Holds}
 use Rattle.table.specs.Contract.{Cuts}
 use Rattle.table.specs.Steps.{Turned, Window, carved, Carved, Headed}
-use Rattle.table.specs.declared.Head.{Head}
-use Rattle.table.specs.declared.Head.the-variants.{Good, Bad}
+use Rattle.table.specs.declared.block.Head.{Head}
+use Rattle.table.specs.declared.block.Head.the-variants.{Good, Bad}
 use Rattle.table.specs.declared.Change.the-variants.{Done, Absent, Full, NoTable}
-use Rattle.table.proofs.Block.{starts-length, tag-at, turned-by}
+use Rattle.table.proofs.Lying.{starts-length, tag-at, turned-by}
 use Rattle.table.proofs.Moves.{cut-at, cut-covers}
 use Rattle.table.proofs.Standing.{open-above, open-in, open-only}
 use Rattle.table.proofs.Holding.{own, of-own, of-none, tileIn, split-in, past-in, covers-split, located-next, first-in, turned-holds}

@@ -11,7 +11,7 @@ use Rattle.table.specs.Row.{Tile, pieces}
 use Rattle.table.specs.Layout.{rowIn, startsOf, tagsOf, limitOf, countOf, topOf, Sound}
 use Rattle.table.specs.Steps.{Turned, Grown, Window, carved}
 use Rattle.table.proofs.Rows.{row-get}
-use Rattle.table.proofs.Block.{starts-length, as-many, count-row, turned-by, turned-on}
+use Rattle.table.proofs.Lying.{starts-length, as-many, count-row, turned-by, turned-on}
 
 -- a store past the first part
 pub set-past : (p r : List Tile) (k j : ℕ) (v : Tile) → k ≡ length p + j → set (p ++ r) k v ≡ p ++ set r j v

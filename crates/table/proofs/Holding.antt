@@ -15,7 +15,7 @@ use Rattle.table.specs.Layout.{rowIn, startsOf, tagsOf, limitOf, countOf
 use Rattle.table.specs.Contract.{Of}
 use Rattle.table.specs.Steps.{Turned}
 use Rattle.table.proofs.Rows.{row-get, row-drop, past-row}
-use Rattle.table.proofs.Block.{starts-length, as-many, count-row, start-past}
+use Rattle.table.proofs.Lying.{starts-length, as-many, count-row, start-past}
 use Rattle.table.proofs.Order.{first-start}
 
 -- the table that a block says

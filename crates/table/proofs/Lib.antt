@@ -1,5 +1,5 @@
 pub mod Rows
-pub mod Block
+pub mod Lying
 pub mod Order
 pub mod Rounding
 pub mod Searching

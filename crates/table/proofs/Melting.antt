@@ -13,7 +13,7 @@ use Rattle.table.specs.Row.{Tile, unfree}
 use Rattle.table.specs.Layout.{rowIn, startsOf, tagsOf, countOf, Sound}
 use Rattle.table.specs.Steps.{Turned, Free, glue, returned}
 use Rattle.table.proofs.Rows.{row-get}
-use Rattle.table.proofs.Block.{starts-length, as-many, count-row, turned-by, turned-on}
+use Rattle.table.proofs.Lying.{starts-length, as-many, count-row, turned-by, turned-on}
 
 -- what a test told, and a test with a fact that holds beside it
 pub told : {b : Bool} {P : Type 0} → Decides b P → b ≡ true → P

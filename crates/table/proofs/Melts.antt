@@ -12,10 +12,10 @@ use Rattle.table.specs.Table.{Proper, withRow}
 use Rattle.table.specs.Layout.{rowIn, startsOf, tagsOf, limitOf, countOf, topOf, Sound, Holds}
 use Rattle.table.specs.Contract.{Melts}
 use Rattle.table.specs.Steps.{Turned, Headed, glue, returned}
-use Rattle.table.specs.declared.Head.{Head}
-use Rattle.table.specs.declared.Head.the-variants.{Bad}
+use Rattle.table.specs.declared.block.Head.{Head}
+use Rattle.table.specs.declared.block.Head.the-variants.{Bad}
 use Rattle.table.specs.declared.Change.the-variants.{Done, Absent, NoTable}
-use Rattle.table.proofs.Block.{start-at, tag-at, turned-by}
+use Rattle.table.proofs.Lying.{start-at, tag-at, turned-by}
 use Rattle.table.proofs.Moves.{melt-glue, melt-covers}
 use Rattle.table.proofs.Standing.{granted-above, granted-in, granted-only}
 use Rattle.table.proofs.Holding.{own, of-own, of-none, tileIn, split-in, covers-split, located-next, turned-holds}

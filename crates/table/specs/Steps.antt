@@ -7,8 +7,8 @@ use lib.Dec.{eqb}
 use lib.ListN.{length, getD, take, drop}
 use Rattle.table.specs.Row.{Tile, pieces, unfree}
 use Rattle.table.specs.Layout.{limitOf, countOf, topOf, startsOf, tagsOf, rowIn, Sound}
-use Rattle.table.specs.declared.Head.{Head}
-use Rattle.table.specs.declared.Head.the-variants.{Good, Bad}
+use Rattle.table.specs.declared.block.Head.{Head}
+use Rattle.table.specs.declared.block.Head.the-variants.{Good, Bad}
 
 -- what `header` answers
 unfoldable pub Headed : List ℕ → Head → Type 0

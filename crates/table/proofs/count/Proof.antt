@@ -1,7 +1,7 @@
 -- `table::count` meets its contract. Assumes nothing.
 use lib.ListN.{length}
 use mathlib.Core.Path.{_∙_}
-use Rattle.table.proofs.Block.{count-row}
+use Rattle.table.proofs.Lying.{count-row}
 use Rattle.table.proofs.Cuts.{good-head}
 use Rattle.table.proofs.Asking.{says, says-nothing}
 use borrow.Author.Needs.{needs}
