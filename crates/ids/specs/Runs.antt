@@ -29,6 +29,7 @@ pub record Event : Type 0 where
   pub asked : Operation
   pub answer : Answer
 
+-- the event that o is answered r
 abbrev pub event : Operation → Answer → Event
 event o r = record { asked = o; answer = r }
 

@@ -4,14 +4,14 @@
 use native.Mathlib.Omega.{arith}
 use mathlib.Core.Path.{_≡_, refl, sym, ap, ap₂, _∙_, subst}
 use mathlib.Core.List.{List}
-use Prim.Native.Nat.{ℕ, _-_, _≤_}
+use Prim.Native.Nat.{ℕ, _+_, _-_, _≤_}
 use denote.Ref.{now}
 use lib.ListN.{length, getD, set, length-set}
 use Rattle.ids.specs.Layout.{Headed, LastBit, Laid, Holds}
 use Rattle.bits.proofs.Levels.{put-tail}
 use borrow.Author.Tests.{eq-eqb, ne-eqb}
 use borrow.Rule.Slice.PartMut.{same-len-mid}
-use Rattle.ids.specs.State.{State, Free, exhausted}
+use Rattle.ids.specs.State.{State, Free, grant, exhausted}
 use Rattle.ids.proofs.States.{no-free, found, flipped, granting}
 use Rattle.ids.proofs.Refusals.{no-state, no-header}
 use borrow.Author.Needs.{needs}
@@ -160,7 +160,7 @@ returns-5 c =
           let k = c .before .before .before .before .before .before .if2 .left in
           let g = granting ws s h _ _ i x up (h .low) e k (found ws s h _ i e (c .before .before .before .before .before .before .before .find .ensures))
           (flipped ws s h _ i x up e k (c .before .before .flip .ensures)) (c .before .before .before .before .larger .ensures) in
-          rw (put-tail 4 (set ws 3 x) up) (g .0, g .1);
+          (g .0, subst (λ (v : List ℕ). Holds v (grant s (getD ws 1 0 + i))) (sym (put-tail 4 (set ws 3 x) up)) (g .1));
     }
 
 pub allocate-spec : {M : Type 1} → statement M

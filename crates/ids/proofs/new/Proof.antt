@@ -1,7 +1,7 @@
 -- `ids::new` meets its contract: a header and zeros hold the fresh state (`laid-fresh`).
 -- Assumes nothing.
 use native.Mathlib.Omega.{arith}
-use mathlib.Core.Path.{_≡_, refl, ap, _∙_}
+use mathlib.Core.Path.{_≡_, refl, sym, ap, _∙_, subst}
 use mathlib.Core.Logic.{inl, inr}
 use mathlib.Core.List.{List}
 use Prim.Native.Nat.{ℕ, _+_, _-_, _≤_}
@@ -9,6 +9,7 @@ use borrow.Rule.Slice.PartMut.{midOf, same-len-mid}
 use denote.Ref.{now}
 use lib.ListN.{length, set, length-set, length-drop}
 use Rattle.bits.proofs.Levels.{mid-tail, put-tail}
+use Rattle.ids.specs.State.{fresh}
 use Rattle.ids.specs.Layout.{kind, Holds}
 use Rattle.ids.proofs.Fresh.{laid-fresh, needs-some}
 use borrow.Author.Needs.{needs}
@@ -73,7 +74,7 @@ returns-3 c =
     let enough : n ≤ length (midOf 4 (length hs - 4) hs) = omega (arith, c .before .before .before .before .if2 .left) in (
       omega arith,
       (4 + n, needs-some (omega arith) w, omega arith),
-      rw (put-tail 4 hs zs)
+      subst (λ (v : List ℕ). Holds v (fresh (a .low) (a .high))) (sym (put-tail 4 hs zs))
           (laid-fresh ws (a .low) (a .high) n zs (omega arith) (omega arith) (omega arith) w
           (omega (arith, c .before .before .clear .kept .0)) (c .before .before .clear .ensures enough)),
     )
