@@ -66,7 +66,8 @@ uint32_t rk_address_new(uint64_t *mem, size_t words, uint64_t base, uint64_t siz
 uint32_t rk_address_allocate(uint64_t *mem, size_t words, uint64_t size, uint64_t alignment, uint32_t policy, uint64_t address,
                              uint64_t *start);
 
-/* Gives back the range whose first and last address are `start` and `end`, which must be granted, just so. Free ranges that touch become one.
+/* Gives back the range whose first and last address are `start` and `end`, which must be granted, just so. Free ranges that touch become
+ * one.
  * Refused, in this order: a pair that is no range (RK_INVALID_RANGE); one that is not granted (RK_RESOURCE_NOT_AVAILABLE). A block that
  * holds no allocator is refused too (RK_NO_STATE). */
 uint32_t rk_address_free(uint64_t *mem, size_t words, uint64_t start, uint64_t end);

@@ -1,7 +1,8 @@
 //! Finds the static library, or builds it.
 //!
 //! `RANGEKEEPER_LIB_DIR` names a folder that has `librangekeeper.a`. Without it the repository that this crate stands in is asked for
-//! `target/native/librangekeeper.a`, and where that is not there yet, `tools/native-lib` makes it: that proves the library first.
+//! `target/native/librangekeeper.a`, and where that is not there yet, `tools/native-lib` makes it: that proves the library first. An archive
+//! that is there is taken as it is: whoever changes the library's source runs `tools/native-lib` again.
 
 use std::env;
 use std::path::{Path, PathBuf};

@@ -44,8 +44,8 @@ impl AddressAllocator {
         Self::with_limit(base, size, DEFAULT_LIMIT)
     }
 
-    /// The same with room for `limit` ranges, free and granted together. A grant may need two ranges more than there were, a free needs none.
-    /// The block takes two words for each range, and a few.
+    /// The same with room for `limit` ranges, free and granted together. A grant may need two ranges more than there were, a free needs
+    /// none. The block takes two words for each range, and a few.
     ///
     /// ```
     /// use rangekeeper::{AddressAllocator, AllocPolicy, Error};

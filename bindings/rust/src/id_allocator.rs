@@ -60,8 +60,8 @@ impl IdAllocator {
         Ok(id)
     }
 
-    /// The lowest id that was never granted, if there is one, and below it those that are not granted now. A free tells which is which, so a
-    /// copy is asked.
+    /// The lowest id that was never granted, if there is one, and below it those that are not granted now. A free tells which is which,
+    /// so a copy is asked.
     fn history(&self) -> (Option<u32>, Vec<u32>) {
         let mut copy = self.clone();
         let mut freed = Vec::new();

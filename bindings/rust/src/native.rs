@@ -67,7 +67,8 @@ pub fn address_free(block: &mut [u64], start: u64, end: u64) -> u32 {
 }
 
 pub fn address_at(block: &[u64], address: u64, start: &mut u64, end: &mut u64, tag: &mut u64) -> u32 {
-    // SAFETY: the pointer and the length are those of a slice that nobody changes during the call; the three others lie outside it and apart.
+    // SAFETY: the pointer and the length are those of a slice that nobody changes during the call; the three others lie outside it and
+    // apart.
     unsafe { rk_address_at(block.as_ptr(), block.len(), address, start, end, tag) }
 }
 
