@@ -20,5 +20,6 @@ pub mod HistoryLaws
 pub mod ReachLaws
 pub mod CallLaws
 pub mod NeverTwice
+pub mod ExactLaws
 pub mod Samples
 pub mod RunSamples

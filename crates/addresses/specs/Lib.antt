@@ -6,3 +6,4 @@ pub mod Held
 pub mod Contract
 pub mod NeverTwice
 pub mod Steps
+pub mod Exact

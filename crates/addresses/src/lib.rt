@@ -129,7 +129,7 @@ fn past_the_end(mem: &[u64], a: u64) -> Error
     }
 }
 
-// Grants the range that starts at a.
+// Grants the range that starts at a. What it answers, a line each and no other, is `Exactly` (specs/Exact.antt; `exact-called`).
 fn exact(mem: &mut [u64], a: u64, size: u64, align: u64) -> Answer
     requires { ⌜ Proper size align (AllocPolicy.ExactMatch a) ⌝ }
     ensures { λ r. ⌜ Performs (now (mem .entry)) (asking size align (AllocPolicy.ExactMatch a)) r (now (mem .exit)) ⌝ }
