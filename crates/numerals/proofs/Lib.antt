@@ -1,0 +1,3 @@
+pub mod Reading
+pub mod Spelling
+pub mod Storing
