@@ -1,3 +1,5 @@
 pub mod Reading
 pub mod Spelling
 pub mod Storing
+pub mod Plain
+pub mod RoundTrip

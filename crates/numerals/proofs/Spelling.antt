@@ -42,7 +42,7 @@ spell-fixed b (suc k) n = go (spell-fixed b k (n / b)) (ltb n b) refl
         rw l (ap (λ (x : List ℕ). x ++ (glyph (n % b) ∷ [])) ih)
 
 -- the first power
-first : (b : ℕ) → b ^ suc zero ≡ b
+pub first : (b : ℕ) → b ^ suc zero ≡ b
 first b = pow-suc b zero ∙ ap (λ (x : ℕ). x * b) (pow-zero b) ∙ one-mul b
 
 -- a 64-bit number has 20 digits at most, in base ten or above

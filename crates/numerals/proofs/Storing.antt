@@ -23,9 +23,9 @@ take-two l at x y h =
     let e : at + 2 ≡ suc (suc at) = omega arith in
     let f : at + 1 ≡ suc at = omega arith in
     rw e (rw f (
-      take-suc-set (set l at x) (suc at) y (omega (arith, length-set l at x))
-      ∙ ap (λ (z : List ℕ). z ++ (y ∷ [])) (take-suc-set l at x (omega arith))
-      ∙ append-assoc (take at l) (x ∷ []) (y ∷ [])))
+    take-suc-set (set l at x) (suc at) y (omega (arith, length-set l at x))
+    ∙ ap (λ (z : List ℕ). z ++ (y ∷ [])) (take-suc-set l at x (omega arith))
+    ∙ append-assoc (take at l) (x ∷ []) (y ∷ [])))
 
 -- and what is behind them
 pub drop-two : (l : List ℕ) (at k x y : ℕ) → at + 2 ≤ k → drop k (set (set l at x) (at + 1) y) ≡ drop k l
@@ -71,3 +71,13 @@ filling-end old at n b k new i rest z w =
     let t : w .tail ≡ spell b 20 n = subst (λ (x : ℕ). fixed b x rest ++ w .tail ≡ spell b 20 n) z (w .whole) in
     let a : at + i ≡ at = omega arith in
     w .stored ∙ rw (a, t)
+
+-- a text behind `0x` that is stored first
+pub hex-stored : (old new t : List ℕ) (at m : ℕ) → at + 2 ≤ length old → at + 2 ≤ m →
+    new ≡ take (at + 2) (set (set old at 48) (at + 1) 120) ++ (t ++ drop m (set (set old at 48) (at + 1) 120)) →
+    new ≡ take at old ++ ((48 ∷ (120 ∷ t)) ++ drop m old)
+hex-stored old new t at m h l e =
+    e
+    ∙ ap (λ (x : List ℕ). x ++ (t ++ drop m (set (set old at 48) (at + 1) 120))) (take-two old at 48 120 h)
+    ∙ ap (λ (x : List ℕ). (take at old ++ (48 ∷ (120 ∷ []))) ++ (t ++ x)) (drop-two old at m 48 120 l)
+    ∙ append-assoc (take at old) (48 ∷ (120 ∷ [])) (t ++ drop m old)

@@ -1,42 +1,39 @@
+-- `numerals::decimal` meets its contract: `width` counts the digits, and `fill` puts them. Assumes nothing.
 use borrow.Author.Needs.{needs}
+use mathlib.Core.Path.{refl, ap}
+use native.Mathlib.Omega.{arith}
+use Prim.Native.Nat.{ℕ, _+_}
+use Rattle.numerals.specs.Spelled.{decimal}
 use Rattle.numerals.proofs.decimal.Statement.{statement}
 use Rattle.numerals.proofs.decimal.Tie as tie
-use Rattle.numerals.proofs.decimal.Reads as reads
-use Rattle.numerals.proofs.decimal.Lts as lts
-use Rattle.numerals.proofs.fill.Reads as fill-reads
-use Rattle.numerals.proofs.width.Reads as width-reads
 
--- src/lib.rt:146:9
 width-requires : tie.Need-width-requires
 width-requires c κs = search needs
 
--- src/lib.rt:148:9
 returns : tie.Need-returns
 returns c = search needs
 
--- src/lib.rt:150:8
 sub-if2 : tie.Need-sub-if2
 sub-if2 c = search needs
 
--- src/lib.rt:151:9
 returns-2 : tie.Need-returns-2
-returns-2 c = ?
+unfolding decimal
+returns-2 c = let k = c .before .before .width .ensures .0 in (omega (arith, k), refl)
 
--- src/lib.rt:153:5
 fill-requires : tie.Need-fill-requires
 fill-requires c κs = search needs
 
--- src/lib.rt:154:15
 add-t5 : tie.Need-add-t5
 add-t5 c = search needs
 
--- src/lib.rt:143:1
 same-length : tie.Need-same-length
 same-length c = search needs
 
--- src/lib.rt:143:1
 returns-3 : tie.Need-returns-3
-returns-3 c = ?
+unfolding decimal
+returns-3 c =
+    let k = c .before .before .before .before .before .before .width .ensures .0 in
+    (omega (arith, k), omega (arith, k), c .before .before .fill .ensures)
 
 pub decimal-spec : {M : Type 1} → statement M
 decimal-spec =

@@ -1,30 +1,30 @@
+-- `numerals::read` meets its contract: by what the text begins with. Assumes nothing.
 use borrow.Author.Needs.{needs}
+use mathlib.Core.Path.{_≡_, sym, ap, _∙_}
+use mathlib.Core.Bool.{Bool, cond}
+use lib.ListN.{drop}
+use Rattle.numerals.specs.Numeral.{digits, fitted}
 use Rattle.numerals.proofs.read.Statement.{statement}
 use Rattle.numerals.proofs.read.Tie as tie
-use Rattle.numerals.proofs.read.Reads as reads
-use Rattle.numerals.proofs.read.Lts as lts
-use Rattle.numerals.proofs.read_digits.Reads as read-digits-reads
-use Rattle.numerals.proofs.starts_hex.Reads as starts-hex-reads
 
--- src/lib.rt:41:8
 starts-hex-requires : tie.Need-starts-hex-requires
 starts-hex-requires c κs = search needs
 
--- src/lib.rt:42:9
 read-digits-requires : tie.Need-read-digits-requires
 read-digits-requires c κs = search needs
 
--- src/lib.rt:44:9
 read-digits-requires-2 : tie.Need-read-digits-requires-2
 read-digits-requires-2 c κs = search needs
 
--- src/lib.rt:38:1
 returns : tie.Need-returns
-returns c = ?
+returns c =
+    let s = c .before .before .before .before .args .s .now in
+    c .read-digits .ensures ∙ sym (ap (λ (t : Bool). fitted (cond t (digits 16 2 (drop 2 s)) (digits 10 0 (drop 0 s)))) (sym (c .before .before .starts-hex .ensures) ∙ c .before .if1 .taken))
 
--- src/lib.rt:38:1
 returns-2 : tie.Need-returns-2
-returns-2 c = ?
+returns-2 c =
+    let s = c .before .before .before .before .args .s .now in
+    c .read-digits2 .ensures ∙ sym (ap (λ (t : Bool). fitted (cond t (digits 16 2 (drop 2 s)) (digits 10 0 (drop 0 s)))) (sym (c .before .before .starts-hex .ensures) ∙ c .before .if1 .left))
 
 pub read-spec : {M : Type 1} → statement M
 read-spec =
