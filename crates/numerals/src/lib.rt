@@ -6,9 +6,11 @@ ghost use lib.ListN.{length, take, drop};
 ghost use mathlib.Core.List.{_++_};
 ghost use Rattle.numerals.specs.Numeral.{isHex, digits, fitted, read as readOf};
 ghost use Rattle.numerals.specs.Numeral.{digit as digitOf};
-ghost use Rattle.numerals.specs.Spelled.{spell, Puts};
+ghost use Rattle.text.specs.Stored.{Puts};
+ghost use Rattle.numerals.specs.Spelled.{spell};
 ghost use Rattle.numerals.specs.Spelled.{glyph as glyphOf, decimal as decimalOf, hexadecimal as hexadecimalOf};
 ghost use Rattle.numerals.specs.Steps.{Counted, stepped};
+use text::Placed;
 
 // What a text says as a number.
 pub enum Value {
@@ -17,13 +19,6 @@ pub enum Value {
     NoDigit(usize),
     // It is a numeral, and what it means does not fit 64 bits.
     TooLarge,
-}
-
-// What putting a text into lent bytes answers: the place behind it, or that it does not fit, when
-// nothing is changed.
-pub enum Put {
-    Next(usize),
-    NoRoom,
 }
 
 // The digits so far: their number, or that it does not fit, or a byte that is no digit.
@@ -140,35 +135,42 @@ fn digit(c: u8) -> u64
 }
 
 // Puts n's decimal digits into `out` from `at` on.
-pub fn decimal(out: &mut [u8], at: usize, n: u64) -> Put
+pub fn decimal(out: &mut [u8], at: usize, n: u64) -> Placed
     ensures { λ r. ⌜ Puts (decimalOf n) at (now (out .entry)) (now (out .exit)) r ⌝ }
 {
     let k = width(n, 10);
     if out.len() < at {
-        return Put::NoRoom;
+        return Placed::NoRoom;
     }
     if out.len() - at < k {
-        return Put::NoRoom;
+        return Placed::NoRoom;
     }
     fill(out, at, n, 10, k);
-    Put::Next(at + k)
+    Placed::Next(at + k)
 }
 
 // Puts 0x and n's hexadecimal digits into `out` from `at` on.
-pub fn hexadecimal(out: &mut [u8], at: usize, n: u64) -> Put
+pub fn hexadecimal(out: &mut [u8], at: usize, n: u64) -> Placed
     ensures { λ r. ⌜ Puts (hexadecimalOf n) at (now (out .entry)) (now (out .exit)) r ⌝ }
 {
     let k = width(n, 16);
     if out.len() < at {
-        return Put::NoRoom;
+        return Placed::NoRoom;
     }
     if out.len() - at < k + 2 {
-        return Put::NoRoom;
+        return Placed::NoRoom;
     }
     out[at] = b'0';
     out[at + 1] = b'x';
     fill(out, at + 2, n, 16, k);
-    Put::Next(at + 2 + k)
+    Placed::Next(at + 2 + k)
+}
+
+// How many bytes `hexadecimal` puts for n.
+pub fn hexadecimal_len(n: u64) -> usize
+    ensures { λ r. ⌜ r ≡ length (hexadecimalOf n) ⌝ }
+{
+    width(n, 16) + 2
 }
 
 // How many digits n has.
