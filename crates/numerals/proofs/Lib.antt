@@ -3,3 +3,4 @@ pub mod Spelling
 pub mod Storing
 pub mod Plain
 pub mod RoundTrip
+pub mod Places

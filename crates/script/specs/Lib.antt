@@ -1,0 +1,5 @@
+pub mod Vocabulary
+pub mod Fields
+pub mod Claims
+pub mod Grammar
+pub mod Answers
