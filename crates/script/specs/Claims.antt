@@ -5,7 +5,8 @@ use Prim.Native.Nat.{ℕ}
 use Rattle.text.specs.Words.{startOf, endOf, noWord, wordIs, dotted}
 use Rattle.ranges.specs.declared.Error.{Error}
 use Rattle.ranges.specs.declared.Error.the-variants.{Overflow, OutOfRange, AlreadyReleased, NeverAllocated, ResourceNotAvailable, InvalidRange, InvalidAlignment, UnalignedAddress, Underflow, InvalidSize, NoRoom, InvalidPolicy, NoState}
-use Rattle.script.specs.Vocabulary.{arrow-word, freed-word, refused-word, reasonText}
+use Rattle.vocabulary.specs.Spelling.{wordText, reasonText}
+use Rattle.vocabulary.specs.declared.Word.{Word}
 use Rattle.script.specs.Fields.{windowAt, idAt}
 use Rattle.script.specs.declared.Claim.{Claim}
 use Rattle.script.specs.declared.Flaw.{Flaw}
@@ -14,23 +15,28 @@ use Rattle.script.specs.declared.fields.WindowTaken.{WindowTaken}
 use Rattle.script.specs.declared.claims.ClaimTaken.{ClaimTaken}
 use Rattle.script.specs.declared.claims.ReasonTaken.{ReasonTaken}
 
--- the reason whose word stands next
-unfoldable pub reasonAt : List ℕ → ℕ → ReasonTaken
-reasonAt s at =
-    cond (wordIs s at (reasonText ResourceNotAvailable)) (ReasonTaken.Is ResourceNotAvailable)
-    (cond (wordIs s at (reasonText Overflow)) (ReasonTaken.Is Overflow)
-    (cond (wordIs s at (reasonText OutOfRange)) (ReasonTaken.Is OutOfRange)
-    (cond (wordIs s at (reasonText AlreadyReleased)) (ReasonTaken.Is AlreadyReleased)
-    (cond (wordIs s at (reasonText NeverAllocated)) (ReasonTaken.Is NeverAllocated)
-    (cond (wordIs s at (reasonText InvalidRange)) (ReasonTaken.Is InvalidRange)
-    (cond (wordIs s at (reasonText InvalidAlignment)) (ReasonTaken.Is InvalidAlignment)
+-- the reason whose word stands next, of the last seven
+unfoldable pub reasonMoreAt : List ℕ → ℕ → ReasonTaken
+reasonMoreAt s at =
+    cond (wordIs s at (reasonText InvalidAlignment)) (ReasonTaken.Is InvalidAlignment)
     (cond (wordIs s at (reasonText UnalignedAddress)) (ReasonTaken.Is UnalignedAddress)
     (cond (wordIs s at (reasonText Underflow)) (ReasonTaken.Is Underflow)
     (cond (wordIs s at (reasonText InvalidSize)) (ReasonTaken.Is InvalidSize)
     (cond (wordIs s at (reasonText NoRoom)) (ReasonTaken.Is NoRoom)
     (cond (wordIs s at (reasonText InvalidPolicy)) (ReasonTaken.Is InvalidPolicy)
     (cond (wordIs s at (reasonText NoState)) (ReasonTaken.Is NoState)
-    (ReasonTaken.Wrong Flaw.ReasonExpected (startOf s at))))))))))))))
+    (ReasonTaken.Wrong Flaw.ReasonExpected (startOf s at))))))))
+
+-- the reason whose word stands next
+unfoldable pub reasonAt : List ℕ → ℕ → ReasonTaken
+reasonAt s at =
+    cond (wordIs s at (reasonText Overflow)) (ReasonTaken.Is Overflow)
+    (cond (wordIs s at (reasonText OutOfRange)) (ReasonTaken.Is OutOfRange)
+    (cond (wordIs s at (reasonText AlreadyReleased)) (ReasonTaken.Is AlreadyReleased)
+    (cond (wordIs s at (reasonText NeverAllocated)) (ReasonTaken.Is NeverAllocated)
+    (cond (wordIs s at (reasonText ResourceNotAvailable)) (ReasonTaken.Is ResourceNotAvailable)
+    (cond (wordIs s at (reasonText InvalidRange)) (ReasonTaken.Is InvalidRange)
+    (reasonMoreAt s at))))))
 
 -- the claim, where nothing stands behind it
 unfoldable pub closedAt : List ℕ → ℕ → Claim → ClaimTaken
@@ -53,8 +59,8 @@ onId (IdTaken.Wrong w i) f = ClaimTaken.Wrong w i
 unfoldable pub saidAt : List ℕ → ℕ → ClaimTaken
 saidAt s at =
     cond (noWord s at) (ClaimTaken.Wrong Flaw.ClaimExpected (startOf s at))
-    (cond (wordIs s at freed-word) (closedAt s (endOf s at) Claim.Freed)
-    (cond (wordIs s at refused-word) (onReason (reasonAt s (endOf s at)) (λ e. closedAt s (endOf s (endOf s at)) (Claim.Refused e)))
+    (cond (wordIs s at (wordText Word.Freed)) (closedAt s (endOf s at) Claim.Freed)
+    (cond (wordIs s at (wordText Word.Refused)) (onReason (reasonAt s (endOf s at)) (λ e. closedAt s (endOf s (endOf s at)) (Claim.Refused e)))
     (cond (dotted s at) (onWindow (windowAt s at) (λ a b i. closedAt s i (Claim.Window a b)))
     (onId (idAt s at) (λ n i. closedAt s i (Claim.Id n))))))
 
@@ -62,5 +68,5 @@ saidAt s at =
 unfoldable pub claimAt : List ℕ → ℕ → ClaimTaken
 claimAt s at =
     cond (noWord s at) (ClaimTaken.Is Claim.Unsaid)
-    (cond (wordIs s at arrow-word) (saidAt s (endOf s at))
+    (cond (wordIs s at (wordText Word.Arrow)) (saidAt s (endOf s at))
     (ClaimTaken.Wrong Flaw.LeftOver (startOf s at)))

@@ -10,7 +10,8 @@ use Rattle.numerals.specs.Numeral.{read}
 use Rattle.numerals.specs.declared.Value.{Value}
 use Rattle.numerals.specs.declared.Value.the-variants.{Number, NoDigit, TooLarge}
 use Rattle.ranges.specs.declared.AllocPolicy.the-variants.{FirstMatch, LastMatch, ExactMatch}
-use Rattle.script.specs.Vocabulary.{first-word, last-word, exact-word}
+use Rattle.vocabulary.specs.Spelling.{wordText}
+use Rattle.vocabulary.specs.declared.Word.{Word}
 use Rattle.script.specs.declared.Flaw.{Flaw}
 use Rattle.script.specs.declared.fields.NameTaken.{NameTaken}
 use Rattle.script.specs.declared.fields.NumberTaken.{NumberTaken}
@@ -76,7 +77,7 @@ exactOf (NumberTaken.Wrong w i) = PolicyTaken.Wrong w i
 -- a policy: `first`, `last`, or `exact` and a number
 unfoldable pub policyAt : List ℕ → ℕ → PolicyTaken
 policyAt s at =
-    cond (wordIs s at first-word) (PolicyTaken.Is FirstMatch (endOf s at))
-    (cond (wordIs s at last-word) (PolicyTaken.Is LastMatch (endOf s at))
-    (cond (wordIs s at exact-word) (exactOf (numberAt s (endOf s at)))
+    cond (wordIs s at (wordText Word.First)) (PolicyTaken.Is FirstMatch (endOf s at))
+    (cond (wordIs s at (wordText Word.Last)) (PolicyTaken.Is LastMatch (endOf s at))
+    (cond (wordIs s at (wordText Word.Exact)) (exactOf (numberAt s (endOf s at)))
     (PolicyTaken.Wrong Flaw.PolicyExpected (startOf s at))))

@@ -6,7 +6,8 @@ use lib.Dec.{ltb}
 use lib.ListN.{length}
 use Rattle.text.specs.Words.{startOf, endOf, noWord, wordIs, dotted}
 use Rattle.ranges.specs.declared.AllocPolicy.{AllocPolicy}
-use Rattle.script.specs.Vocabulary.{pool-word, ids-word, allocate-word, free-word, show-word, limit-word, align-word, arrow-word}
+use Rattle.vocabulary.specs.Spelling.{wordText}
+use Rattle.vocabulary.specs.declared.Word.{Word}
 use Rattle.script.specs.Fields.{nameAt, numberAt, idAt, windowAt, policyAt}
 use Rattle.script.specs.Claims.{claimAt}
 use Rattle.script.specs.declared.Name.{Name}
@@ -53,7 +54,7 @@ endedAt s at l = cond (noWord s at) l (Line.Wrong Flaw.LeftOver (startOf s at))
 -- `limit` N or nothing, behind a pool's name, base and size
 unfoldable pub limitAt : List ℕ → Name → ℕ → ℕ → ℕ → Line
 limitAt s name base size at =
-    cond (wordIs s at limit-word)
+    cond (wordIs s at (wordText Word.Limit))
     (onNumber (numberAt s (endOf s at)) (λ n i. endedAt s i (Line.Pool name base size (Limit.Said n))))
     (endedAt s at (Line.Pool name base size Limit.Unsaid))
 
@@ -74,7 +75,7 @@ grantAt s name at = onClaim (claimAt s at) (λ c. Line.AllocateId name c)
 -- `align` A and a policy, behind a range's size
 unfoldable pub rangeAt : List ℕ → Name → ℕ → ℕ → Line
 rangeAt s name size at =
-    cond (wordIs s at align-word)
+    cond (wordIs s at (wordText Word.Align))
     (onNumber (numberAt s (endOf s at)) (λ align i. onPolicy (policyAt s i) (λ p j. onClaim (claimAt s j) (λ c. Line.Allocate name size align p c))))
     (Line.Wrong Flaw.AlignExpected (startOf s at))
 
@@ -83,7 +84,7 @@ unfoldable pub allocateAt : List ℕ → ℕ → Line
 allocateAt s at =
     onName (nameAt s at) (λ name i.
     cond (noWord s i) (grantAt s name i)
-    (cond (wordIs s i arrow-word) (grantAt s name i)
+    (cond (wordIs s i (wordText Word.Arrow)) (grantAt s name i)
     (onNumber (numberAt s i) (λ size j. rangeAt s name size j))))
 
 -- a window, behind `free` NAME
@@ -107,9 +108,9 @@ unfoldable pub lineOf : List ℕ → Line
 lineOf s =
     cond (ltb 1000 (length s)) (Line.Wrong Flaw.LineTooLong 1000)
     (cond (noWord s 0) Line.Blank
-    (cond (wordIs s 0 allocate-word) (allocateAt s (endOf s 0))
-    (cond (wordIs s 0 free-word) (freeAt s (endOf s 0))
-    (cond (wordIs s 0 pool-word) (poolAt s (endOf s 0))
-    (cond (wordIs s 0 ids-word) (idsAt s (endOf s 0))
-    (cond (wordIs s 0 show-word) (showAt s (endOf s 0))
+    (cond (wordIs s 0 (wordText Word.Allocate)) (allocateAt s (endOf s 0))
+    (cond (wordIs s 0 (wordText Word.Free)) (freeAt s (endOf s 0))
+    (cond (wordIs s 0 (wordText Word.Pool)) (poolAt s (endOf s 0))
+    (cond (wordIs s 0 (wordText Word.Ids)) (idsAt s (endOf s 0))
+    (cond (wordIs s 0 (wordText Word.Show)) (showAt s (endOf s 0))
     (Line.Wrong Flaw.UnknownWord (startOf s 0))))))))

@@ -1,4 +1,3 @@
-pub mod Vocabulary
 pub mod Fields
 pub mod Claims
 pub mod Grammar

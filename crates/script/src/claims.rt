@@ -1,12 +1,13 @@
 // The claim at the end of a line: nothing, or `=>` and an answer.
 ghost use mathlib.Core.Path.{_≡_};
-ghost use Rattle.script.specs.Claims.{reasonAt, claimAt, saidAt, closedAt};
+ghost use Rattle.script.specs.Claims.{reasonAt, reasonMoreAt, claimAt, saidAt, closedAt};
 use crate::Claim;
 use crate::Flaw;
 use crate::fields;
 use crate::fields::IdTaken;
 use crate::fields::WindowTaken;
 use ranges::Error;
+use vocabulary::Word;
 
 pub enum ClaimTaken {
     Is(Claim),
@@ -25,7 +26,7 @@ pub fn take_claim(s: &[u8], at: usize) -> ClaimTaken
     if text::no_word(s, at) {
         return ClaimTaken::Is(Claim::Unsaid);
     }
-    if text::word_is(s, at, b"=>") {
+    if vocabulary::next_is(s, at, Word::Arrow) {
         return take_said(s, text::end(s, at));
     }
     ClaimTaken::Wrong(Flaw::LeftOver, text::start(s, at))
@@ -38,10 +39,10 @@ fn take_said(s: &[u8], at: usize) -> ClaimTaken
         return ClaimTaken::Wrong(Flaw::ClaimExpected, text::start(s, at));
     }
     let e = text::end(s, at);
-    if text::word_is(s, at, b"freed") {
+    if vocabulary::next_is(s, at, Word::Freed) {
         return close(s, e, Claim::Freed);
     }
-    if text::word_is(s, at, b"refused") {
+    if vocabulary::next_is(s, at, Word::Refused) {
         return match take_reason(s, e) {
             ReasonTaken::Is(reason) => close(s, text::end(s, e), Claim::Refused(reason)),
             ReasonTaken::Wrong(w, i) => ClaimTaken::Wrong(w, i),
@@ -72,43 +73,50 @@ fn close(s: &[u8], at: usize, claim: Claim) -> ClaimTaken
 fn take_reason(s: &[u8], at: usize) -> ReasonTaken
     ensures { λ r. ⌜ r ≡ reasonAt (now (s .entry)) at ⌝ }
 {
-    if text::word_is(s, at, b"not-available") {
-        return ReasonTaken::Is(Error::ResourceNotAvailable);
-    }
-    if text::word_is(s, at, b"overflow") {
+    if vocabulary::reason_is(s, at, Error::Overflow) {
         return ReasonTaken::Is(Error::Overflow);
     }
-    if text::word_is(s, at, b"out-of-range") {
+    if vocabulary::reason_is(s, at, Error::OutOfRange) {
         return ReasonTaken::Is(Error::OutOfRange);
     }
-    if text::word_is(s, at, b"already-released") {
+    if vocabulary::reason_is(s, at, Error::AlreadyReleased) {
         return ReasonTaken::Is(Error::AlreadyReleased);
     }
-    if text::word_is(s, at, b"never-allocated") {
+    if vocabulary::reason_is(s, at, Error::NeverAllocated) {
         return ReasonTaken::Is(Error::NeverAllocated);
     }
-    if text::word_is(s, at, b"invalid-range") {
+    if vocabulary::reason_is(s, at, Error::ResourceNotAvailable) {
+        return ReasonTaken::Is(Error::ResourceNotAvailable);
+    }
+    if vocabulary::reason_is(s, at, Error::InvalidRange) {
         return ReasonTaken::Is(Error::InvalidRange);
     }
-    if text::word_is(s, at, b"invalid-alignment") {
+    take_reason_more(s, at)
+}
+
+// The other reasons.
+fn take_reason_more(s: &[u8], at: usize) -> ReasonTaken
+    ensures { λ r. ⌜ r ≡ reasonMoreAt (now (s .entry)) at ⌝ }
+{
+    if vocabulary::reason_is(s, at, Error::InvalidAlignment) {
         return ReasonTaken::Is(Error::InvalidAlignment);
     }
-    if text::word_is(s, at, b"unaligned") {
+    if vocabulary::reason_is(s, at, Error::UnalignedAddress) {
         return ReasonTaken::Is(Error::UnalignedAddress);
     }
-    if text::word_is(s, at, b"underflow") {
+    if vocabulary::reason_is(s, at, Error::Underflow) {
         return ReasonTaken::Is(Error::Underflow);
     }
-    if text::word_is(s, at, b"invalid-size") {
+    if vocabulary::reason_is(s, at, Error::InvalidSize) {
         return ReasonTaken::Is(Error::InvalidSize);
     }
-    if text::word_is(s, at, b"no-room") {
+    if vocabulary::reason_is(s, at, Error::NoRoom) {
         return ReasonTaken::Is(Error::NoRoom);
     }
-    if text::word_is(s, at, b"invalid-policy") {
+    if vocabulary::reason_is(s, at, Error::InvalidPolicy) {
         return ReasonTaken::Is(Error::InvalidPolicy);
     }
-    if text::word_is(s, at, b"no-state") {
+    if vocabulary::reason_is(s, at, Error::NoState) {
         return ReasonTaken::Is(Error::NoState);
     }
     ReasonTaken::Wrong(Flaw::ReasonExpected, text::start(s, at))

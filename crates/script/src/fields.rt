@@ -9,6 +9,7 @@ use crate::Name;
 use numerals::Value;
 use ranges::AllocPolicy;
 use text::Class;
+use vocabulary::Word;
 
 pub enum NameTaken {
     Is(Name, usize),
@@ -119,13 +120,13 @@ pub fn take_policy(s: &[u8], at: usize) -> PolicyTaken
     ensures { λ r. ⌜ r ≡ policyAt (now (s .entry)) at ⌝ }
 {
     let e = text::end(s, at);
-    if text::word_is(s, at, b"first") {
+    if vocabulary::next_is(s, at, Word::First) {
         return PolicyTaken::Is(AllocPolicy::FirstMatch, e);
     }
-    if text::word_is(s, at, b"last") {
+    if vocabulary::next_is(s, at, Word::Last) {
         return PolicyTaken::Is(AllocPolicy::LastMatch, e);
     }
-    if text::word_is(s, at, b"exact") {
+    if vocabulary::next_is(s, at, Word::Exact) {
         return match take_number(s, e) {
             NumberTaken::Is(n, i) => PolicyTaken::Is(AllocPolicy::ExactMatch(n), i),
             NumberTaken::Wrong(w, i) => PolicyTaken::Wrong(w, i),

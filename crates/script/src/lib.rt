@@ -8,10 +8,10 @@ mod fields;
 mod lines;
 mod print;
 
-pub use print::put_reason;
 pub use print::put_window;
 use ranges::AllocPolicy;
 use ranges::Error;
+use vocabulary::Word;
 
 // The place of a name in the line.
 pub struct Name {
@@ -110,19 +110,19 @@ pub fn parse(s: &[u8]) -> Line
         return Line::Blank;
     }
     let next = text::end(s, 0);
-    if text::word_is(s, 0, b"allocate") {
+    if vocabulary::next_is(s, 0, Word::Allocate) {
         return lines::allocate(s, next);
     }
-    if text::word_is(s, 0, b"free") {
+    if vocabulary::next_is(s, 0, Word::Free) {
         return lines::free(s, next);
     }
-    if text::word_is(s, 0, b"pool") {
+    if vocabulary::next_is(s, 0, Word::Pool) {
         return lines::pool(s, next);
     }
-    if text::word_is(s, 0, b"ids") {
+    if vocabulary::next_is(s, 0, Word::Ids) {
         return lines::ids(s, next);
     }
-    if text::word_is(s, 0, b"show") {
+    if vocabulary::next_is(s, 0, Word::Show) {
         return lines::show(s, next);
     }
     Line::Wrong {

@@ -13,6 +13,7 @@ use crate::fields::NameTaken;
 use crate::fields::NumberTaken;
 use crate::fields::PolicyTaken;
 use crate::fields::WindowTaken;
+use vocabulary::Word;
 
 // NAME BASE SIZE, and `limit N` or nothing.
 pub fn pool(s: &[u8], at: usize) -> Line
@@ -33,7 +34,7 @@ pub fn pool(s: &[u8], at: usize) -> Line
 fn take_limit(s: &[u8], name: Name, base: u64, size: u64, at: usize) -> Line
     ensures { λ r. ⌜ r ≡ limitAt (now (s .entry)) name base size at ⌝ }
 {
-    if text::word_is(s, at, b"limit") {
+    if vocabulary::next_is(s, at, Word::Limit) {
         return match fields::take_number(s, text::end(s, at)) {
             NumberTaken::Wrong(why, at) => Line::Wrong { why, at },
             NumberTaken::Is(n, i) => {
@@ -90,7 +91,7 @@ pub fn allocate(s: &[u8], at: usize) -> Line
             if text::no_word(s, i) {
                 return allocate_id(s, name, i);
             }
-            if text::word_is(s, i, b"=>") {
+            if vocabulary::next_is(s, i, Word::Arrow) {
                 return allocate_id(s, name, i);
             }
             match fields::take_number(s, i) {
@@ -114,7 +115,7 @@ fn allocate_id(s: &[u8], name: Name, at: usize) -> Line
 fn range(s: &[u8], name: Name, size: u64, at: usize) -> Line
     ensures { λ r. ⌜ r ≡ rangeAt (now (s .entry)) name size at ⌝ }
 {
-    if !text::word_is(s, at, b"align") {
+    if !vocabulary::next_is(s, at, Word::Align) {
         return Line::Wrong {
             why: Flaw::AlignExpected,
             at: text::start(s, at),
