@@ -8,7 +8,7 @@ use native.Mathlib.Omega.{arith}
 use lib.Dec.{ltb}
 use lib.ListN.{length, length-append}
 use borrow.Author.Tests.{ltb-true, ltb-false, lt-ltb, le-ltb}
-use Rattle.numerals.specs.Spelled.{glyph, spell}
+use Rattle.numerals.specs.Spelled.{glyph, spell, hexadecimal}
 
 -- the last k digits of n in base b
 abbrev pub fixed : ℕ → ℕ → ℕ → List ℕ
@@ -75,3 +75,16 @@ counting-step b n k rest p h w = go (w .left) (w .count) (w .most) (w .below)
 pub counting-end : (b n k rest : ℕ) → rest < b → Counting b n k rest → (k ≡ length (spell b 20 n)) × (k ≤ 20)
 counting-end b n k rest h w =
     (omega (arith, w .count, ap length (spell-small b (w .left) rest h)), omega (arith, w .most))
+
+-- no more digits than were enough
+pub spell-most : (b k n : ℕ) → length (spell b k n) ≤ k
+spell-most b zero n = omega arith
+spell-most b (suc k) n = go (spell-most b k (n / b)) (ltb n b)
+  where
+    go : length (spell b k (n / b)) ≤ k → (t : Bool) → length (cond t (glyph n ∷ []) (spell b k (n / b) ++ (glyph (n % b) ∷ []))) ≤ suc k
+    go ih true = omega arith
+    go ih false = omega (arith, length-append (spell b k (n / b)) (glyph (n % b) ∷ []))
+
+pub hexadecimal-most : (n : ℕ) → length (hexadecimal n) ≤ 22
+unfolding hexadecimal
+hexadecimal-most n = omega (arith, spell-most 16 20 n)

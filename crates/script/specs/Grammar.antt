@@ -72,12 +72,14 @@ idsAt s at =
 unfoldable pub grantAt : List ℕ → Name → ℕ → Line
 grantAt s name at = onClaim (claimAt s at) (λ c. Line.AllocateId name c)
 
--- `align` A and a policy, behind a range's size
+-- a range's alignment, policy and claim
+unfoldable pub alignedAt : List ℕ → Name → ℕ → ℕ → Line
+alignedAt s name size at =
+    onNumber (numberAt s at) (λ align i. onPolicy (policyAt s i) (λ p j. onClaim (claimAt s j) (λ c. Line.Allocate name size align p c)))
+
+-- `align`, behind a range's size
 unfoldable pub rangeAt : List ℕ → Name → ℕ → ℕ → Line
-rangeAt s name size at =
-    cond (wordIs s at (wordText Word.Align))
-    (onNumber (numberAt s (endOf s at)) (λ align i. onPolicy (policyAt s i) (λ p j. onClaim (claimAt s j) (λ c. Line.Allocate name size align p c))))
-    (Line.Wrong Flaw.AlignExpected (startOf s at))
+rangeAt s name size at = cond (wordIs s at (wordText Word.Align)) (alignedAt s name size (endOf s at)) (Line.Wrong Flaw.AlignExpected (startOf s at))
 
 -- `allocate` NAME, with nothing or a claim behind it; or `allocate` NAME SIZE
 unfoldable pub allocateAt : List ℕ → ℕ → Line

@@ -1,6 +1,6 @@
 // The kinds of lines, behind the word that names each.
 ghost use mathlib.Core.Path.{_≡_};
-ghost use Rattle.script.specs.Grammar.{poolAt, limitAt, idsAt, allocateAt, grantAt, rangeAt, freeAt, freeWindowAt, freeIdAt, showAt, endedAt};
+ghost use Rattle.script.specs.Grammar.{poolAt, limitAt, idsAt, allocateAt, grantAt, rangeAt, alignedAt, freeAt, freeWindowAt, freeIdAt, showAt, endedAt};
 use crate::Flaw;
 use crate::Limit;
 use crate::Line;
@@ -115,13 +115,19 @@ fn allocate_id(s: &[u8], name: Name, at: usize) -> Line
 fn range(s: &[u8], name: Name, size: u64, at: usize) -> Line
     ensures { λ r. ⌜ r ≡ rangeAt (now (s .entry)) name size at ⌝ }
 {
-    if !vocabulary::next_is(s, at, Word::Align) {
-        return Line::Wrong {
-            why: Flaw::AlignExpected,
-            at: text::start(s, at),
-        };
+    if vocabulary::next_is(s, at, Word::Align) {
+        return policy(s, name, size, text::end(s, at));
     }
-    match fields::take_number(s, text::end(s, at)) {
+    Line::Wrong {
+        why: Flaw::AlignExpected,
+        at: text::start(s, at),
+    }
+}
+
+fn policy(s: &[u8], name: Name, size: u64, at: usize) -> Line
+    ensures { λ r. ⌜ r ≡ alignedAt (now (s .entry)) name size at ⌝ }
+{
+    match fields::take_number(s, at) {
         NumberTaken::Wrong(why, at) => Line::Wrong { why, at },
         NumberTaken::Is(align, i) => match fields::take_policy(s, i) {
             PolicyTaken::Wrong(why, at) => Line::Wrong { why, at },
