@@ -42,7 +42,7 @@ pub fn scan(s: &[u8], at: usize, class: Class) -> usize
 }
 
 // Whether a byte is of a class.
-pub fn is_in(class: Class, c: u8) -> bool
+fn is_in(class: Class, c: u8) -> bool
     ensures { λ r. ⌜ r ≡ isIn class c ⌝ }
 {
     match class {
