@@ -78,10 +78,12 @@ module _ (low high : ℕ) where
   ends : scanOf Solid (windowText low high) 0 ≡ length (windowText low high)
   unfolding scanOf windowText isSolid isBlank
   ends =
-      omega (arith,
+      omega (
+        arith,
         run-through Solid (hexadecimal low) (46 ∷ (46 ∷ hexadecimal high)) (hex-solid low),
         run-end (hexadecimal high) (hex-solid high),
-        length-append (hexadecimal low) (46 ∷ (46 ∷ hexadecimal high)))
+        length-append (hexadecimal low) (46 ∷ (46 ∷ hexadecimal high)),
+      )
     where
       run-end : (s : List ℕ) → AllIn Solid s → run Solid s ≡ length s
       run-end [] w = refl
