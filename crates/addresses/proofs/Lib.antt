@@ -1,0 +1,24 @@
+-- Laws of the address allocator. RunLaws, HistoryLaws and ReachLaws have what holds after any sequence of operations.
+pub mod MultipleLaws
+pub mod Places
+pub mod Room
+pub mod Search
+pub mod Moves
+pub mod RowLaws
+pub mod Tiles
+pub mod Computed
+pub mod ComputedLaws
+pub mod PoolLaws
+pub mod TableLaws
+pub mod StepLaws
+pub mod WalkLaws
+pub mod GrantLaws
+pub mod ReleaseLaws
+pub mod RequestLaws
+pub mod RunLaws
+pub mod HistoryLaws
+pub mod ReachLaws
+pub mod CallLaws
+pub mod NeverTwice
+pub mod Samples
+pub mod RunSamples

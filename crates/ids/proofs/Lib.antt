@@ -1,0 +1,11 @@
+pub mod Tests
+pub mod States
+pub mod Fresh
+pub mod Refusals
+pub mod Validity
+pub mod Unique
+pub mod RunLaws
+pub mod Futures
+pub mod Chains
+pub mod NeverTwice
+pub mod Reachable

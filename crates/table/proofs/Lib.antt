@@ -1,0 +1,14 @@
+pub mod Rows
+pub mod Lying
+pub mod Order
+pub mod Rounding
+pub mod Searching
+pub mod Moves
+pub mod Standing
+pub mod Holding
+pub mod Cutting
+pub mod Melting
+pub mod Cuts
+pub mod Melts
+pub mod Asking
+pub mod Making
