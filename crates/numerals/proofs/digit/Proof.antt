@@ -1,0 +1,66 @@
+-- `numerals::digit` meets its contract: each answer by the tests that led there. Assumes nothing.
+use borrow.Author.Needs.{needs}
+use borrow.Author.Tests.{lt-ltb, le-ltb}
+use Rattle.numerals.specs.Numeral.{digit}
+use Rattle.numerals.proofs.digit.Statement.{statement}
+use Rattle.numerals.proofs.digit.Tie as tie
+
+returns : tie.Need-returns
+unfolding digit
+returns c = simp (lt-ltb _ _ (c .if1 .taken))
+
+cast-result : tie.Need-cast-result
+cast-result c = search needs
+
+returns-2 : tie.Need-returns-2
+unfolding digit
+returns-2 c = simp (le-ltb _ _ (c .before .if1 .left), lt-ltb _ _ (c .if2 .taken))
+
+returns-3 : tie.Need-returns-3
+unfolding digit
+returns-3 c = simp (le-ltb _ _ (c .before .before .if1 .left), le-ltb _ _ (c .before .if2 .left), lt-ltb _ _ (c .if3 .taken))
+
+sub-result : tie.Need-sub-result
+sub-result c = search needs
+
+cast-result-2 : tie.Need-cast-result-2
+cast-result-2 c = search needs
+
+returns-4 : tie.Need-returns-4
+unfolding digit
+returns-4 c = simp (le-ltb _ _ (c .before .before .before .if1 .left), le-ltb _ _ (c .before .before .if2 .left), le-ltb _ _ (c .before .if3 .left), lt-ltb _ _ (c .if4 .taken))
+
+returns-5 : tie.Need-returns-5
+unfolding digit
+returns-5 c = simp (le-ltb _ _ (c .before .before .before .before .if1 .left), le-ltb _ _ (c .before .before .before .if2 .left), le-ltb _ _ (c .before .before .if3 .left), le-ltb _ _ (c .before .if4 .left), lt-ltb _ _ (c .if5 .taken))
+
+sub-result-2 : tie.Need-sub-result-2
+sub-result-2 c = search needs
+
+cast-result-3 : tie.Need-cast-result-3
+cast-result-3 c = search needs
+
+returns-6 : tie.Need-returns-6
+unfolding digit
+returns-6 c = simp (le-ltb _ _ (c .before .before .before .before .before .if1 .left), le-ltb _ _ (c .before .before .before .before .if2 .left), le-ltb _ _ (c .before .before .before .if3 .left), le-ltb _ _ (c .before .before .if4 .left), le-ltb _ _ (c .before .if5 .left), lt-ltb _ _ (c .if6 .taken))
+
+returns-7 : tie.Need-returns-7
+unfolding digit
+returns-7 c = simp (le-ltb _ _ (c .before .before .before .before .before .if1 .left), le-ltb _ _ (c .before .before .before .before .if2 .left), le-ltb _ _ (c .before .before .before .if3 .left), le-ltb _ _ (c .before .before .if4 .left), le-ltb _ _ (c .before .if5 .left), le-ltb _ _ (c .if6 .left))
+
+pub digit-spec : {M : Type 1} → statement M
+digit-spec =
+    tie.close
+    (tie.spec
+    returns
+    cast-result
+    returns-2
+    returns-3
+    sub-result
+    cast-result-2
+    returns-4
+    returns-5
+    sub-result-2
+    cast-result-3
+    returns-6
+    returns-7)

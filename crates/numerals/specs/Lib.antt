@@ -1,0 +1,4 @@
+pub mod Numeral
+pub mod Spelled
+pub mod Steps
+pub mod Samples

@@ -1,0 +1,5 @@
+pub mod Fields
+pub mod Claims
+pub mod Grammar
+pub mod Answers
+pub mod Samples
