@@ -1,3 +1,4 @@
 pub mod Digits
 pub mod Levels
 pub mod Rooms
+pub mod Counts

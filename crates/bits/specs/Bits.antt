@@ -3,6 +3,7 @@ use mathlib.Core.Path.{_≡_}
 use mathlib.Core.List.{List}
 use Prim.Native.Nat.{ℕ, zero, suc, _+_, _-_, _/_, _%_, _^_, _≤_, _<_}
 use lib.ListN.{length, getD, drop}
+use Rattle.ranges.specs.Count.{Count}
 
 -- digit j of the number w
 unfoldable pub digit : ℕ → ℕ → ℕ
@@ -67,3 +68,7 @@ Takes last r = Words last r × (r ≤ last + 1)
 -- the first n words are 0, where there are as many
 abbrev pub Clears : List ℕ → ℕ → List ℕ → Type 0
 Clears ws n vs = n ≤ length ws → (k : ℕ) → k < n → getD vs k 0 ≡ 0
+
+-- r of the bits 0 to last are 0, where the words are there
+abbrev pub Zeros : List ℕ → ℕ → ℕ → Type 0
+Zeros ws last r = last / 64 < length ws → Count (λ j. bit ws j ≡ 0) (last + 1) r

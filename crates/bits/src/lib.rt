@@ -5,7 +5,7 @@ ghost use mathlib.Core.Path.{_≡_};
 ghost use Prim.Native.Nat.{ℕ, _%_, _≤_, _<_, _+_};
 ghost use lib.ListN.{length, getD};
 ghost use Rattle.ranges.specs.Align.{Decides};
-ghost use Rattle.bits.specs.Bits.{bit, LowOnes, Toggled, Finds, Flips, Takes, Clears};
+ghost use Rattle.bits.specs.Bits.{bit, LowOnes, Toggled, Finds, Flips, Takes, Clears, Zeros};
 
 // How many ones stand below the lowest zero of a word: its place, or 64 where there is none.
 fn low_ones(w: u64) -> u64
@@ -108,4 +108,29 @@ pub fn clear(mem: &mut [u64], n: usize)
         mem[k] = 0;
         k += 1;
     }
+}
+
+// How many of the bits 0 to last are 0, where the words are there: a word at a time, and the last word bit by bit.
+pub fn zeros(mem: &[u64], last: u32) -> u64
+    ensures { λ r. ⌜ Zeros (now (mem .entry)) last r ⌝ }
+{
+    let top = (last / 64) as usize;
+    if mem.len() <= top {
+        return 0;
+    }
+    let mut n: u64 = 0;
+    let mut k: usize = 0;
+    while k < top {
+        n += 64 - u64::count_ones(mem[k]) as u64;
+        k += 1;
+    }
+    let end = last as u64;
+    let mut i = (last / 64 * 64) as u64;
+    while i <= end {
+        if !is_set(mem, i as u32) {
+            n += 1;
+        }
+        i += 1;
+    }
+    n
 }

@@ -1,5 +1,6 @@
 pub mod Tests
 pub mod States
+pub mod Zeros
 pub mod Fresh
 pub mod Refusals
 pub mod Validity
@@ -8,4 +9,8 @@ pub mod RunLaws
 pub mod Futures
 pub mod Chains
 pub mod NeverTwice
+pub mod FirstWords
+pub mod LedgerLaws
+pub mod LedgerRuns
 pub mod Reachable
+pub mod Taking

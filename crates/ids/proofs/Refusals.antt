@@ -23,7 +23,11 @@ pub headed : (m : List ℕ) (s : State) → Laid m s → Headed (getD m 0 0) (ge
 headed m s h = rw (h .low, h .high) (h .head)
 
 -- a block whose header is none holds no state
+pub none-held : (m : List ℕ) (l : Last) → l ≡ Missing
+    → LastBit (getD m 0 0) (getD m 1 0) (getD m 2 0) (length m - 4) l → (s : State) → Laid m s → ⊥
+none-held m l q b s h = subst (LastBit (getD m 0 0) (getD m 1 0) (getD m 2 0) (length m - 4)) q b (headed m s h)
+
+-- so it may refuse anything
 pub no-header : {m : List ℕ} {o : Operation} {e : Error} (l : Last) → l ≡ Missing
     → LastBit (getD m 0 0) (getD m 1 0) (getD m 2 0) (length m - 4) l → Performs m o (Refused e) m
-no-header {m} l q b =
-    no-state (λ s h. subst (LastBit (getD m 0 0) (getD m 1 0) (getD m 2 0) (length m - 4)) q b (headed m s h))
+no-header {m} l q b = no-state (none-held m l q b)

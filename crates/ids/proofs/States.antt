@@ -28,7 +28,7 @@ decides-map true f g d = f d
 decides-map false f g d = λ q. d (g q)
 
 -- a digit says which bool it is of
-digit-false : (b : Bool) → asDigit b ≡ 0 → b ≡ false
+pub digit-false : (b : Bool) → asDigit b ≡ 0 → b ≡ false
 digit-false true e = absurd (omega arith)
 digit-false false e = refl
 

@@ -4,4 +4,6 @@ pub mod Layout
 pub mod Held
 pub mod Contract
 pub mod NeverTwice
+pub mod Ledger
 pub mod Samples
+pub mod Exact

@@ -6,7 +6,14 @@ ghost use Prim.Native.Nat.{max};
 ghost use Rattle.ids.specs.Runs.{Allocate, Release};
 ghost use Rattle.ids.specs.Layout.{LastBit};
 ghost use Rattle.ids.specs.Held.{Needs};
-ghost use Rattle.ids.specs.Contract.{Makes, Performs};
+ghost use Rattle.ids.specs.Contract.{Makes, Performs, Tells, Describes};
+
+mod count;
+mod exact;
+
+pub use count::free_count;
+pub use exact::lowest;
+pub use exact::take;
 use ranges::Error;
 
 // The letters RK-ids01: what stands in the first word of an id allocator's memory and of no other's.
@@ -22,6 +29,12 @@ pub enum Answer {
 pub enum Setup {
     Ready,
     Unfit(Error),
+}
+
+// The interval, and the lowest id that was never granted, which is high + 1 where there is none: up to 2^32, so wider than an id.
+pub enum Interval {
+    Of { low: u32, high: u32, next: u64 },
+    NoState,
 }
 
 // The place of an interval's last bit, where the memory is an id allocator's.
@@ -142,4 +155,45 @@ pub fn free(mem: &mut [u64], id: u32) -> Answer
     }
     bits::flip(&mut mem[4..], last, i);
     Answer::Id(id)
+}
+
+// Whether the id is granted now: false of every other number, those outside the interval included, and where there is no allocator.
+pub fn is_allocated(mem: &[u64], id: u32) -> bool
+    ensures { λ r. ⌜ Tells (now (mem .entry)) id r ⌝ }
+{
+    if mem.len() < 4 {
+        return false;
+    }
+    let low = mem[1];
+    let Last::Bit(last) = last_bit(mem[0], low, mem[2], mem.len() - 4) else {
+        return false;
+    };
+    let x = id as u64;
+    if x < low {
+        return false;
+    }
+    let i = (x - low) as u32;
+    if last < i {
+        return false;
+    }
+    bits::is_set(&mem[4..], i)
+}
+
+// The interval's ends and the lowest id that was never granted, or that the memory is no id allocator's.
+pub fn bounds(mem: &[u64]) -> Interval
+    ensures { λ r. ⌜ Describes (now (mem .entry)) r ⌝ }
+{
+    if mem.len() < 4 {
+        return Interval::NoState;
+    }
+    let low = mem[1];
+    let high = mem[2];
+    let Last::Bit(_) = last_bit(mem[0], low, high, mem.len() - 4) else {
+        return Interval::NoState;
+    };
+    Interval::Of {
+        low: low as u32,
+        high: high as u32,
+        next: mem[3],
+    }
 }

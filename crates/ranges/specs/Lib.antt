@@ -3,3 +3,4 @@ pub mod Range
 pub mod Reasons
 pub mod Request
 pub mod Samples
+pub mod Count

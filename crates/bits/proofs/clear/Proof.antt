@@ -36,10 +36,9 @@ loop-less c = omega arith
 
 loop-again : tie.Need-loop-again Inv-loop μ-loop
 loop-again c =
-    let l = c .before .loop in
-    let kept = length-set (l .mem) (l .k) 0 in (
-      kept ∙ l .inv .0,
-      omega (arith, kept),
+    let l = c .before .loop in (
+      simp length-set (l .inv .0),
+      simp length-set (omega arith),
       omega arith,
       below-more (λ (j : ℕ). getD (set (l .mem) (l .k) 0) j 0 ≡ 0) (l .k)
           (λ j b. getD-set-other (l .mem) (l .k) j 0 0 (λ e. omega arith) ∙ l .inv .3 j b)

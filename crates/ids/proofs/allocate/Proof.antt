@@ -123,10 +123,10 @@ slice-write-mem : tie.Need-slice-write-mem
 slice-write-mem c = search needs
 
 sub-flip : tie.Need-sub-flip
-sub-flip c = search needs
+sub-flip c = simp length-set (omega arith)
 
 part-flip-start : tie.Need-part-flip-start
-part-flip-start c = search needs
+part-flip-start c = simp length-set (omega arith)
 
 part-flip-end : tie.Need-part-flip-end
 part-flip-end c = search needs

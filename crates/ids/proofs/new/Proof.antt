@@ -7,7 +7,7 @@ use mathlib.Core.List.{List}
 use Prim.Native.Nat.{ℕ, _+_, _-_, _≤_}
 use borrow.Rule.Slice.PartMut.{midOf, same-len-mid}
 use denote.Ref.{now}
-use lib.ListN.{length, set, length-set, length-drop}
+use lib.ListN.{length, set, length-set, length-take, length-drop}
 use Rattle.bits.proofs.Levels.{mid-tail, put-tail}
 use Rattle.ids.specs.State.{fresh}
 use Rattle.ids.specs.Layout.{kind, Holds}
@@ -60,6 +60,10 @@ same-length c =
     let kept = c .before .before .clear .kept .0 in
     rw same-len-mid (simp length-set)
 
+-- the part behind the header is the rest
+rest : (xs : List ℕ) → length (midOf 4 (length xs - 4) xs) ≡ length xs - 4
+rest xs = ap length (mid-tail 4 xs) ∙ length-drop 4 xs
+
 returns-3 : tie.Need-returns-3
 unfolding Holds
 returns-3 c =
@@ -70,13 +74,13 @@ returns-3 c =
     let n : ℕ = c .before .before .before .before .before .room .result in
     let w = c .before .before .before .before .before .room .ensures .0 in
     let len : length hs ≡ length ws = simp length-set in
-    let mid : length (midOf 4 (length hs - 4) hs) ≡ length hs - 4 = ap length (mid-tail 4 hs) ∙ length-drop 4 hs in
-    let enough : n ≤ length (midOf 4 (length hs - 4) hs) = omega (arith, c .before .before .before .before .if2 .left) in (
+    let left = simp (length-take, length-drop, length-set) at (c .before .before .clear .kept .0) in
+    let enough : n ≤ length (midOf 4 (length hs - 4) hs) = omega (arith, rest hs, c .before .before .before .before .if2 .left) in (
       omega arith,
       (4 + n, needs-some (omega arith) w, omega arith),
       subst (λ (v : List ℕ). Holds v (fresh (a .low) (a .high))) (sym (put-tail 4 hs zs))
           (laid-fresh ws (a .low) (a .high) n zs (omega arith) (omega arith) (omega arith) w
-          (omega (arith, c .before .before .clear .kept .0)) (c .before .before .clear .ensures enough)),
+          (omega (arith, left)) (c .before .before .clear .ensures enough)),
     )
 
 pub new-spec : {M : Type 1} → statement M
