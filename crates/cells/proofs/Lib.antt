@@ -1,2 +1,1 @@
-pub mod Shift
-pub mod Zones
+pub mod Halves

@@ -1,5 +1,5 @@
-// Stretches of words in lent memory: shifting them, and looking an address up in a stretch of starts.
-ghost use Rattle.cells.specs.Cells.{Opens, Closes, Locates};
+// Looking an address up in a stretch of starts, by halves and with no branch that goes by what is read.
+ghost use Rattle.cells.specs.Cells.{Stepped, Locates};
 
 // Where an address lies among starts.
 pub enum Spot {
@@ -7,41 +7,11 @@ pub enum Spot {
     Before,
 }
 
-// Makes room for `by` cells at `at`: those from there on go up, and the last `by` are lost.
-pub fn open(a: &mut [u64], at: usize, by: usize)
-    ensures { λ _. ⌜ Opens (now (a .entry)) at by (now (a .exit)) ⌝ }
+// hi where x is at most a, else lo.
+pub fn step(x: u64, a: u64, lo: usize, hi: usize) -> usize
+    ensures { λ r. ⌜ Stepped x a lo hi r ⌝ }
 {
-    let mut i = a.len();
-    if i < by {
-        return;
-    }
-    if i - by < at {
-        return;
-    }
-    let low = at + by;
-    while low < i {
-        i = i - 1;
-        a[i] = a[i - by];
-    }
-}
-
-// Takes the `by` cells at `at` out: those past them go down, and the last `by` stay as they are.
-pub fn close(a: &mut [u64], at: usize, by: usize)
-    ensures { λ _. ⌜ Closes (now (a .entry)) at by (now (a .exit)) ⌝ }
-{
-    let n = a.len();
-    if n < by {
-        return;
-    }
-    let end = n - by;
-    if end < at {
-        return;
-    }
-    let mut i = at;
-    while i < end {
-        a[i] = a[i + by];
-        i = i + 1;
-    }
+    if x <= a { hi } else { lo }
 }
 
 // The index of the start at a or last below it, where the starts rise. By halves.
@@ -55,15 +25,13 @@ pub fn locate(starts: &[u64], a: u64) -> Spot
     if a < starts[0] {
         return Spot::Before;
     }
-    let mut lo: usize = 0;
-    let mut hi = n;
-    while 1 < hi - lo {
-        let mid = lo + (hi - lo) / 2;
-        if starts[mid] <= a {
-            lo = mid;
-        } else {
-            hi = mid;
-        }
+    let mut base: usize = 0;
+    let mut len = n;
+    while 1 < len {
+        let h = len / 2;
+        let p = base + h;
+        base = step(starts[p], a, base, p);
+        len = len - h;
     }
-    Spot::At(lo)
+    Spot::At(base)
 }

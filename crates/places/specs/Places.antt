@@ -84,3 +84,7 @@ LowAt ss ts last more mask i Nowhere = PowerOfTwo (mask + 1) → (b : ℕ) → R
 unfoldable pub HighAt : List ℕ → List ℕ → ℕ → ℕ → ℕ → ℕ → Fit → Type 0
 HighAt ss ts last more mask i (At a) = PowerOfTwo (mask + 1) → (getD ts i 0 ≡ 0) × Highest (getD ss i 0) (pastAt ss last i) (more + 1) (mask + 1) a
 HighAt ss ts last more mask i Nowhere = PowerOfTwo (mask + 1) → (b : ℕ) → Room ss ts last (more + 1) (mask + 1) i b → ⊥
+
+-- no free range from range `from` on and before range `to`, none of which is the last, has more than `more` addresses
+unfoldable pub Narrow : List ℕ → List ℕ → ℕ → ℕ → ℕ → Type 0
+Narrow ss ts more from to = (j : ℕ) → from ≤ j → j < to → (j + 1 < length ss) × (getD ts j 0 ≡ 0 → getD ss (j + 1) 0 ≤ getD ss j 0 + more)

@@ -11,16 +11,19 @@ use Rattle.cells.specs.Cells.{Located}
 use Rattle.places.proofs.Searches.{getD-any}
 use Rattle.table.specs.Row.{Tile, past, Covers}
 use Rattle.table.specs.Table.{Table, Proper, withRow}
-use Rattle.table.specs.Layout.{rowIn, startsOf, tagsOf, limitOf, countOf, topOf, Sound, Lies, Holds}
+use Rattle.blocks.specs.Blocks.{countOf, blocksOf, limitOf, topOf, sizeAt, startsOf, tagsOf, index, Sound, Settled, Risen, Ready}
+use Rattle.blocks.proofs.Parts.{sizes-snoc}
+use Rattle.blocks.proofs.Flat.{flat-first, flat-within, all-starts}
+use Rattle.spread.specs.Spread.{Turned}
+use Rattle.table.specs.Layout.{rowOf, rowIn, Lies, Holds}
 use Rattle.table.specs.Contract.{Of}
-use Rattle.table.specs.Steps.{Turned}
-use Rattle.table.proofs.Rows.{row-get, row-drop, past-row}
-use Rattle.table.proofs.Lying.{starts-length, as-many, count-row, start-past}
-use Rattle.table.proofs.Order.{first-start}
+use Rattle.table.proofs.Rows.{row-get, row-drop, row-length, past-row}
+use Rattle.table.proofs.Lying.{starts-length, as-many, count-row, many}
+use Rattle.table.proofs.Order.{tileAt, first-start, rising}
 
 -- the table that a block says
 abbrev pub own : List ℕ → Table
-own m = record { base = getD m 3 0; top = topOf m; limit = limitOf m; row = rowIn m }
+own m = record { base = getD m 2 0; top = topOf m; limit = limitOf m; row = rowIn m }
 
 pub own-is : (m : List ℕ) (t : Table) → Lies m t → own m ≡ t
 own-is m t l = λ i. record { base = l .base-is i; top = l .top-is i; limit = l .limit-is i; row = l .row-is i }
@@ -34,18 +37,31 @@ pub holds-proper : (m : List ℕ) (t : Table) → Holds m t → Proper t
 unfolding Holds
 holds-proper m t h = h .1
 
--- what is so of the block's own table is so of each that it holds
-pub of-own : (m : List ℕ) (P : Table → Type 0) → (Proper (own m) → P (own m)) → Of m P
-unfolding Holds
-of-own m P f t h = let e = own-is m t (h .0) in subst P e (f (subst Proper (sym e) (h .1)))
+-- no block but the first starts at 0, since the starts rise
+risen : (m : List ℕ) → Settled m → Proper (own m) → Risen m
+unfolding Risen rowIn index
+risen m u p b h =
+    let k : ℕ = index b (sizeAt b m) m in
+    let some = u .some b (omega arith) in
+    let here : k < length (startsOf m) = omega (arith, all-starts m (u .sound), flat-within m (u .sound) (b + 1) h 0 (u .some (b + 1) h), sizes-snoc b m) in
+    let start : (j : ℕ) → j < length (startsOf m) → tileAt (rowOf (startsOf m) (tagsOf m)) j .start ≡ getD (startsOf m) j 0 = λ j l. ap (λ (t : Tile). t .start) (row-get (startsOf m) (tagsOf m) j (record { start = 0; tag = 0 }) (as-many m u) l) in
+    omega (arith, rising (topOf m) (getD m 2 0) (rowOf (startsOf m) (tagsOf m)) (p .covers) 0 k (omega arith) (omega (arith, here, row-length (startsOf m) (tagsOf m) (as-many m u))), start k here, flat-first m u b (omega arith) 0 h)
 
--- a block whose header is not a table's holds none
+-- what is so of the block's own table is so of each that it holds
+pub of-own : (m : List ℕ) (P : Table → Type 0) → (Ready m → Proper (own m) → P (own m)) → Of m P
+unfolding Holds
+of-own m P f t h =
+    let e = own-is m t (h .0) in
+    let p = subst Proper (sym e) (h .1) in
+    subst P e (f (record { settled = h .0 .settled; bounded = h .0 .bounded; risen = risen m (h .0 .settled) p }) p)
+
+-- lent words whose header is not a table's hold none
 pub of-none : (m : List ℕ) → (Sound m → ⊥) → Of m (λ t. ⊥)
 unfolding Holds
-of-none m n t h = n (h .0 .sound)
+of-none m n t h = n (h .0 .settled .sound)
 
 -- a row is split at index i
-module _ (m : List ℕ) (sound : Sound m) (i : ℕ) (h : i < countOf m) where
+module _ (m : List ℕ) (sound : Settled m) (i : ℕ) (h : i < countOf m) where
   abbrev pub tileIn : Tile
   tileIn = record { start = getD (startsOf m) i 0; tag = getD (tagsOf m) i 0 }
 
@@ -65,8 +81,8 @@ module _ (m : List ℕ) (sound : Sound m) (i : ℕ) (h : i < countOf m) where
       rw (row-drop (i + 1) (startsOf m) (tagsOf m), past-row (drop (i + 1) (startsOf m)) (drop (i + 1) (tagsOf m)) (topOf m) e, getD-drop (i + 1) (startsOf m) 0 (topOf m), z)
 
   -- the same row, split, covers the pool
-  pub covers-split : Proper (own m) → Covers (getD m 3 0) (topOf m) (take i (rowIn m) ++ tileIn ∷ drop (i + 1) (rowIn m))
-  covers-split p = subst (Covers (getD m 3 0) (topOf m)) split-in (p .covers)
+  pub covers-split : Proper (own m) → Covers (getD m 2 0) (topOf m) (take i (rowIn m) ++ tileIn ∷ drop (i + 1) (rowIn m))
+  covers-split p = subst (Covers (getD m 2 0) (topOf m)) split-in (p .covers)
 
   -- an address located at i lies before the next tile
   pub located-next : (a : ℕ) → Located (startsOf m) a i → 0 < length (drop (i + 1) (rowIn m)) → a < past (drop (i + 1) (rowIn m)) (topOf m)
@@ -74,23 +90,16 @@ module _ (m : List ℕ) (sound : Sound m) (i : ℕ) (h : i < countOf m) where
       let w : i + 1 < countOf m = omega (arith, count-row m sound, length-drop (i + 1) (rowIn m)) in
       rw past-in (omega (arith, l .to (omega (arith, starts-length m sound)), getD-any (startsOf m) (i + 1) (topOf m) 0 (omega (arith, starts-length m sound))))
 
-  -- so it does not end below 0
-  pub located-ends : (a : ℕ) → Located (startsOf m) a i → 0 < getD (startsOf m) (i + 1) (topOf m)
-  located-ends a l = ends-by (decLt (i + 1) (countOf m))
-    where
-      ends-by : Dec (i + 1 < countOf m) → 0 < getD (startsOf m) (i + 1) (topOf m)
-      ends-by (yes w) = omega (arith, l .to (omega (arith, starts-length m sound)), getD-any (startsOf m) (i + 1) (topOf m) 0 (omega (arith, starts-length m sound)))
-      ends-by (no n) = omega (arith, start-past m sound (i + 1) (topOf m) (omega arith))
-
 -- the first start is the base
-pub first-in : (m : List ℕ) → Sound m → Proper (own m) → getD (startsOf m) 0 0 ≡ getD m 3 0
-first-in m sound p = first-start (topOf m) (getD m 3 0) (tileIn m sound 0 (sound .many)) (drop (0 + 1) (rowIn m)) (covers-split m sound 0 (sound .many) p)
+pub first-in : (m : List ℕ) → Settled m → Proper (own m) → getD (startsOf m) 0 0 ≡ getD m 2 0
+first-in m sound p = first-start (topOf m) (getD m 2 0) (tileIn m sound 0 (many m sound)) (drop (0 + 1) (rowIn m)) (covers-split m sound 0 (many m sound) p)
 
 -- a change of the row, to one that covers the pool, is a table held
-pub turned-holds : (m m′ : List ℕ) (row : List Tile) → Sound m → Proper (own m) → Turned m m′ row → Covers (getD m 3 0) (topOf m) row → Holds m′ (withRow (own m) row)
-unfolding Holds
-turned-holds m m′ row sound p t c =
-    let s = t .sound in (
-      record { sound = s; limit-is = t .limit; base-is = t .base; top-is = ap (λ (x : ℕ). x + 1) (t .last); row-is = t .row-is },
-      record { covers = c; room = omega (arith, s .count, t .limit, count-row m′ s, ap length (t .row-is)); some = p .some; most = p .most; below = p .below },
+pub turned-holds : (m m′ : List ℕ) (ss ts : List ℕ) (row : List Tile) → Proper (own m) → Turned m m′ ss ts → rowOf ss ts ≡ row → Covers (getD m 2 0) (topOf m) row → Holds m′ (withRow (own m) row)
+unfolding Holds rowIn
+turned-holds m m′ ss ts row p t e c =
+    let l = t .laid in
+    let r : rowOf (startsOf m′) (tagsOf m′) ≡ row = rw (l .starts, l .tags) e in (
+      record { settled = l .settled; bounded = t .bounded; limit-is = l .limit; base-is = l .first; top-is = ap (λ (x : ℕ). x + 1) (l .last); row-is = r },
+      record { covers = c; room = omega (arith, l .settled .sound .count, l .limit, count-row m′ (l .settled), ap length r); some = p .some; most = p .most; below = p .below },
     )

@@ -6,7 +6,6 @@ pub mod Searching
 pub mod Moves
 pub mod Standing
 pub mod Holding
-pub mod Cutting
 pub mod Melting
 pub mod Cuts
 pub mod Melts

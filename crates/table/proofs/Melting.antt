@@ -1,30 +1,21 @@
--- What `melt_at` leaves in the block, by what stands before the range and behind it. Assumes nothing.
+-- The row after a tile is given back, by what stands before the tile and behind it. Assumes nothing.
 use Prim.Native.Nat.{ℕ, zero, suc, _+_, _-_, _≤_, _<_}
 use mathlib.Core.Path.{_≡_, refl, sym, ap, _∙_}
 use mathlib.Core.List.{List, [], _∷_, _++_}
-use mathlib.Core.Bool.{Bool, true, false}
+use mathlib.Core.Bool.{Bool, true, false, cond}
 use native.Mathlib.Omega.{arith}
-use native.Mathlib.Numerals.{add-one}
 use borrow.Author.Tests.{eq-eqb, ne-eqb}
-use lib.ListN.{length, getD, take, drop, set, length-drop, length-append}
-use lib.Seq.{set-split, append-snoc, take-at, drop-at, drop-drop, getD-take, getD-drop, length-take-le}
+use lib.ListN.{length, getD, take, drop, length-drop}
+use lib.Seq.{drop-drop, getD-take, getD-drop, length-take-le}
 use Rattle.ranges.specs.Align.{Decides}
+use Rattle.blocks.specs.Blocks.{countOf, startsOf, tagsOf, Settled}
+use Rattle.splice.specs.Splice.{splice}
+use Rattle.melting.specs.Melting.{Free}
 use Rattle.table.specs.Row.{Tile, unfree}
-use Rattle.table.specs.Layout.{rowIn, startsOf, tagsOf, countOf, Sound}
-use Rattle.table.specs.Steps.{Turned, Free, glue, returned}
+use Rattle.table.specs.Layout.{rowOf, rowIn}
+use Rattle.table.specs.Steps.{glue}
 use Rattle.table.proofs.Rows.{row-get}
-use Rattle.table.proofs.Lying.{starts-length, as-many, count-row, turned-by, turned-on}
-
--- what a test told, and a test with a fact that holds beside it
-pub told : {b : Bool} {P : Type 0} → Decides b P → b ≡ true → P
-told {P = P} t e = let u : Decides true P = rw e at t in u
-
-pub told-not : {b : Bool} {P : Type 0} → Decides b P → b ≡ false → P → ⊥
-told-not {P = P} t e = let u : Decides false P = rw e at t in u
-
-pub told-with : (b : Bool) (P : Type 0) {Q : Type 0} → Q → Decides b P → Decides b (Q × P)
-told-with true P q t = (q, t)
-told-with false P q t = λ f. t (f .1)
+use Rattle.table.proofs.Lying.{starts-length, as-many, count-row, row-splice}
 
 -- `glue` by the tag of the last tile before; j is its index
 glue-free : (pre : List Tile) (t : Tile) (r : List Tile) (d : Tile) (j : ℕ) → suc j ≡ length pre → getD pre j d .tag ≡ 0 → glue pre t r ≡ pre ++ r
@@ -53,16 +44,19 @@ unfree-used [] d f = refl
 unfree-used (x ∷ l) d f = rw (ne-eqb (x .tag) 0 (f (omega arith)))
 
 -- the tag of a tile of a row in memory
-tag-in : (m : List ℕ) → Sound m → (j : ℕ) (d : Tile) → j < countOf m → getD (rowIn m) j d .tag ≡ getD (tagsOf m) j 0
+tag-in : (m : List ℕ) → Settled m → (j : ℕ) (d : Tile) → j < countOf m → getD (rowIn m) j d .tag ≡ getD (tagsOf m) j 0
 unfolding rowIn
 tag-in m s j d h = ap (λ (t : Tile). t .tag) (row-get (startsOf m) (tagsOf m) j d (as-many m s) (omega (arith, starts-length m s)))
 
-module _ (m : List ℕ) (sound : Sound m) (i : ℕ) (h : i < countOf m) where
+module _ (m : List ℕ) (sound : Settled m) (i : ℕ) (h : i < countOf m) where
   abbrev row : List Tile
   row = rowIn m
 
   abbrev tile : Tile
   tile = record { start = getD (startsOf m) i 0; tag = 0 }
+
+  inside : (j : ℕ) → Free m j → j < countOf m
+  inside j f = omega (arith, f .within, sound .total)
 
   front-length : length (take i row) ≡ i
   front-length = length-take-le i row (omega (arith, count-row m sound))
@@ -71,7 +65,7 @@ module _ (m : List ℕ) (sound : Sound m) (i : ℕ) (h : i < countOf m) where
   pub before-free : (0 < i) × Free m (i - 1) → (r : List Tile) → glue (take i row) tile r ≡ take i row ++ r
   before-free f r =
       glue-free (take i row) tile r tile (i - 1) (omega (arith, f .0, front-length))
-      (ap (λ (t : Tile). t .tag) (getD-take i row (i - 1) tile (omega (arith, f .0))) ∙ tag-in m sound (i - 1) tile (f .1 .within) ∙ f .1 .free)
+      (ap (λ (t : Tile). t .tag) (getD-take i row (i - 1) tile (omega (arith, f .0))) ∙ tag-in m sound (i - 1) tile (inside (i - 1) (f .1)) ∙ f .1 .free)
 
   pub before-used : ((0 < i) × Free m (i - 1) → ⊥) → (r : List Tile) → glue (take i row) tile r ≡ take i row ++ tile ∷ r
   before-used f r =
@@ -79,15 +73,15 @@ module _ (m : List ℕ) (sound : Sound m) (i : ℕ) (h : i < countOf m) where
       (λ j e z.
       let e′ : i - 1 ≡ j = omega (arith, front-length) in
       let w : j < countOf m = omega (arith, front-length) in
-      f (omega (arith, front-length), record { within = omega (arith, w, e′); free = rw e′ (sym (tag-in m sound j tile w) ∙ ap (λ (t : Tile). t .tag) (sym (getD-take i row j tile (omega (arith, front-length)))) ∙ z) }))
+      f (omega (arith, front-length), record { within = omega (arith, w, e′, sound .total); free = rw e′ (sym (tag-in m sound j tile w) ∙ ap (λ (t : Tile). t .tag) (sym (getD-take i row j tile (omega (arith, front-length)))) ∙ z) }))
 
   behind-tag : (j : ℕ) → getD (drop (i + 1) row) 0 tile ≡ getD row (i + 1) tile
   behind-tag j = let z : i + 1 + 0 ≡ i + 1 = omega arith in getD-drop (i + 1) row 0 tile ∙ rw z
 
   pub behind-free : Free m (i + 1) → unfree (drop (i + 1) row) ≡ drop (i + 1 + 1) row
   behind-free f =
-      unfree-free (drop (i + 1) row) tile (simp length-drop (omega (arith, count-row m sound, f .within)))
-      (ap (λ (t : Tile). t .tag) (behind-tag 0) ∙ tag-in m sound (i + 1) tile (f .within) ∙ f .free)
+      unfree-free (drop (i + 1) row) tile (simp length-drop (omega (arith, count-row m sound, inside (i + 1) f)))
+      (ap (λ (t : Tile). t .tag) (behind-tag 0) ∙ tag-in m sound (i + 1) tile (inside (i + 1) f) ∙ f .free)
       ∙ drop-drop 1 (i + 1) row
 
   pub behind-used : (Free m (i + 1) → ⊥) → unfree (drop (i + 1) row) ≡ drop (i + 1) row
@@ -95,43 +89,16 @@ module _ (m : List ℕ) (sound : Sound m) (i : ℕ) (h : i < countOf m) where
       unfree-used (drop (i + 1) row) tile
       (λ l z.
       let w : i + 1 < countOf m = omega (arith, count-row m sound, simp length-drop at l) in
-      f (record { within = w; free = sym (tag-in m sound (i + 1) tile w) ∙ ap (λ (t : Tile). t .tag) (sym (behind-tag 0)) ∙ z }))
+      f (record { within = omega (arith, w, sound .total); free = sym (tag-in m sound (i + 1) tile w) ∙ ap (λ (t : Tile). t .tag) (sym (behind-tag 0)) ∙ z }))
 
-  -- what stands in memory after `melt_at`'s calls; x is the tile's start, as the code reads it
-  pub melt-both : {m₁ : List ℕ} → (0 < i) × Free m (i - 1) → Free m (i + 1) → Turned m m₁ (take i row ++ drop (i + 2) row) → Turned m m₁ (returned i m)
-  unfolding returned
-  melt-both {m₁ = m₁} f g t =
+  -- the lists after it was given back, as a row
+  pub melt-row : (after before : Bool) → Decides after (Free m (i + 1)) → Decides before ((0 < i) × Free m (i - 1)) → rowOf (splice i (cond after 2 1) (cond before [] (getD (startsOf m) i 0 ∷ [])) (startsOf m)) (splice i (cond after 2 1) (cond before [] (0 ∷ [])) (tagsOf m)) ≡ glue (take i row) tile (unfree (drop (i + 1) row))
+  unfolding rowIn rowOf
+  melt-row true true f g =
       let e : i + 1 + 1 ≡ i + 2 = omega arith in
-      turned-by m m₁ (take i row ++ drop (i + 2) row) (glue (take i row) tile (unfree (drop (i + 1) row))) (sym (before-free f (unfree (drop (i + 1) row)) ∙ rw (behind-free g, e))) t
-
-  pub melt-before : {m₁ : List ℕ} → (0 < i) × Free m (i - 1) → (Free m (i + 1) → ⊥) → Turned m m₁ (take i row ++ drop (i + 1) row) → Turned m m₁ (returned i m)
-  unfolding returned
-  melt-before {m₁ = m₁} f g t = turned-by m m₁ (take i row ++ drop (i + 1) row) (glue (take i row) tile (unfree (drop (i + 1) row))) (sym (before-free f (unfree (drop (i + 1) row)) ∙ rw (behind-used g))) t
-
-  module _ {m₁ : List ℕ} (x : ℕ) (e : x ≡ getD (startsOf m) i 0) (f : (0 < i) × Free m (i - 1) → ⊥) (t : Turned m m₁ (set row i (record { start = x; tag = 0 }))) where
-    put-row : rowIn m₁ ≡ take i row ++ tile ∷ drop (i + 1) row
-    put-row = t .row-is ∙ rw (e, set-split row i tile (omega (arith, count-row m sound)), add-one)
-
-    pub melt-none : (Free m (i + 1) → ⊥) → Turned m m₁ (returned i m)
-    unfolding returned
-    melt-none g =
-        turned-by m m₁ (set row i (record { start = x; tag = 0 })) (glue (take i row) tile (unfree (drop (i + 1) row)))
-        (sym (t .row-is) ∙ put-row ∙ sym (before-used f (unfree (drop (i + 1) row)) ∙ rw (behind-used g))) t
-
-    pub melt-after : {m₂ : List ℕ} → Free m (i + 1) → Turned m₁ m₂ (take (i + 1) (rowIn m₁) ++ drop (i + 1 + 1) (rowIn m₁)) → Turned m m₂ (returned i m)
-    unfolding returned
-    melt-after {m₂ = m₂} g u =
-        turned-by m m₂ (take (i + 1) (rowIn m₁) ++ drop (i + 1 + 1) (rowIn m₁)) (glue (take i row) tile (unfree (drop (i + 1) row)))
-        (kept ∙ sym (before-used f (unfree (drop (i + 1) row)) ∙ rw (behind-free g)))
-        (turned-on m m₁ m₂ _ _ t u)
-      where
-        split : rowIn m₁ ≡ take i row ++ (tile ∷ []) ++ drop (i + 1) row
-        split = put-row ∙ sym (append-snoc (take i row) tile (drop (i + 1) row))
-
-        len : length (take i row ++ (tile ∷ [])) ≡ i + 1
-        len = length-append (take i row) (tile ∷ []) ∙ ap (λ (z : ℕ). z + 1) front-length
-
-        kept : take (i + 1) (rowIn m₁) ++ drop (i + 1 + 1) (rowIn m₁) ≡ take i row ++ tile ∷ drop (i + 1 + 1) row
-        kept =
-            rw (split, take-at (take i row ++ (tile ∷ [])) (drop (i + 1) row) (i + 1) len, ← drop-drop 1 (i + 1) (take i row ++ (tile ∷ []) ++ drop (i + 1) row), drop-at (take i row ++ (tile ∷ [])) (drop (i + 1) row) (i + 1) len, drop-drop 1 (i + 1) row)
-            (append-snoc (take i row) tile (drop (i + 1 + 1) row))
+      row-splice (startsOf m) (tagsOf m) [] [] i 2 (as-many m sound) refl ∙ sym (before-free g (unfree (drop (i + 1) row)) ∙ rw (behind-free f, e))
+  melt-row true false f g =
+      let e : i + 1 + 1 ≡ i + 2 = omega arith in
+      row-splice (startsOf m) (tagsOf m) (getD (startsOf m) i 0 ∷ []) (0 ∷ []) i 2 (as-many m sound) refl ∙ sym (before-used g (unfree (drop (i + 1) row)) ∙ rw (behind-free f, e))
+  melt-row false true f g = row-splice (startsOf m) (tagsOf m) [] [] i 1 (as-many m sound) refl ∙ sym (before-free g (unfree (drop (i + 1) row)) ∙ rw (behind-used f))
+  melt-row false false f g = row-splice (startsOf m) (tagsOf m) (getD (startsOf m) i 0 ∷ []) (0 ∷ []) i 1 (as-many m sound) refl ∙ sym (before-used g (unfree (drop (i + 1) row)) ∙ rw (behind-used f))

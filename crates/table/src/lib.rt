@@ -1,15 +1,13 @@
 // The table of a pool's ranges, free and granted, in one lent block of words.
 // Every function is total: any numbers and any contents are answered or refused, and a refusal leaves the block as it was.
-mod block;
-
-use block::Head;
-use cells::Spot;
+use blocks::Head;
+use blocks::Where;
 use places::Fit;
 ghost use mathlib.Core.Path.{_≡_};
 ghost use Prim.Native.Nat.{_+_, _<_};
 ghost use lib.ListN.{length};
 ghost use Rattle.table.specs.Held.{wordsFor};
-ghost use Rattle.table.specs.Layout.{Sound, limitOf, countOf};
+ghost use Rattle.blocks.specs.Blocks.{Sound, blocksOf};
 ghost use Rattle.table.specs.Contract.{Makes, FindsLowest, FindsHighest, Cuts, Melts, Shows, Says};
 
 // Whether a table was made. Unfit: no such pool, or a limit that is not 1 to 4,096. Short: too few words.
@@ -54,7 +52,7 @@ pub fn words(limit: usize) -> usize
     if 4096 < limit {
         return 0;
     }
-    5 + limit * 2
+    136 + (limit + 31) / 32 * 193
 }
 
 // A table of one free range, from base to last, that may hold `limit` ranges.
@@ -71,13 +69,17 @@ pub fn make(mem: &mut [u64], base: u64, last: u64, limit: usize) -> Begun
     if mem.len() < need {
         return Begun::Short;
     }
-    mem[0] = block::MARK;
-    mem[1] = limit as u64;
-    mem[2] = 1;
-    mem[3] = base;
-    mem[4] = last;
-    mem[5] = base;
-    mem[5 + limit] = 0;
+    mem[0] = ((limit + 31) / 32) as u64;
+    mem[1] = 1;
+    mem[2] = base;
+    mem[3] = last;
+    mem[4] = 1;
+    mem[5] = limit as u64;
+    mem[6] = blocks::MARK;
+    mem[8] = last - base;
+    mem[136] = 1;
+    mem[137] = base;
+    mem[201] = 0;
     Begun::Done
 }
 
@@ -91,11 +93,11 @@ pub fn lowest(mem: &[u64], size: u64, align: u64) -> Place
     if !ranges::is_power_of_two(align) {
         return Place::Unfit;
     }
-    let h = block::header(mem);
-    let Head::Good(limit, n) = h else {
+    let h = blocks::header(mem);
+    let Head::Good(nb) = h else {
         return Place::NoTable;
     };
-    let f = block::lowest_in(mem, limit, n, size - 1, align - 1);
+    let f = blocks::search_up(mem, nb, size - 1, align - 1);
     let Fit::At(a) = f else {
         return Place::Nowhere;
     };
@@ -112,36 +114,41 @@ pub fn highest(mem: &[u64], size: u64, align: u64) -> Place
     if !ranges::is_power_of_two(align) {
         return Place::Unfit;
     }
-    let h = block::header(mem);
-    let Head::Good(limit, n) = h else {
+    let h = blocks::header(mem);
+    let Head::Good(nb) = h else {
         return Place::NoTable;
     };
-    let f = block::highest_in(mem, limit, n, size - 1, align - 1);
+    let f = blocks::search_down(mem, nb, size - 1, align - 1);
     let Fit::At(a) = f else {
         return Place::Nowhere;
     };
     Place::At(a)
 }
 
-fn cut_in(mem: &mut [u64], limit: usize, n: usize, a: u64, size: u64, tag: u64) -> Change
-    requires { ⌜ Sound (now mem) × (limit ≡ limitOf (now mem)) × (n ≡ countOf (now mem)) × (0 < size) × (0 < tag) ⌝ }
+fn cut_in(mem: &mut [u64], nb: usize, a: u64, size: u64, tag: u64) -> Change
+    requires { ⌜ Sound (now mem) × (nb ≡ blocksOf (now mem)) × (0 < size) × (0 < tag) ⌝ }
     ensures { λ r. ⌜ Cuts (now (mem .entry)) a size tag r (now (mem .exit)) ⌝ }
 {
-    let f = block::locate_in(mem, n, a);
-    let Spot::At(i) = f else {
+    let f = blocks::find(mem, nb, a);
+    let Where::In(b, i) = f else {
         return Change::Absent;
     };
-    if mem[5 + limit + i] != 0 {
+    let g = blocks::tag_of(mem, b, i);
+    if g != 0 {
         return Change::Absent;
     }
-    let e = block::end_of(mem, n, i);
+    let e = blocks::end_of(mem, nb, b, i);
     if e < a {
         return Change::Absent;
     }
     if e - a < size - 1 {
         return Change::Absent;
     }
-    let done = block::carve(mem, limit, n, i, a, size, tag);
+    let n = blocks::size_of(mem, b);
+    if 61 < n {
+        return Change::NoTable;
+    }
+    let done = splice::cut(mem, nb, b, i, a, size, tag);
     if done {
         return Change::Done;
     }
@@ -158,28 +165,30 @@ pub fn cut(mem: &mut [u64], a: u64, size: u64, tag: u64) -> Change
     if tag == 0 {
         return Change::Unfit;
     }
-    let h = block::header(mem);
-    let Head::Good(limit, n) = h else {
+    let h = blocks::header(mem);
+    let Head::Good(nb) = h else {
         return Change::NoTable;
     };
-    cut_in(mem, limit, n, a, size, tag)
+    cut_in(mem, nb, a, size, tag)
 }
 
-fn melt_in(mem: &mut [u64], limit: usize, n: usize, s: u64) -> Change
-    requires { ⌜ Sound (now mem) × (limit ≡ limitOf (now mem)) × (n ≡ countOf (now mem)) ⌝ }
+fn melt_in(mem: &mut [u64], nb: usize, s: u64) -> Change
+    requires { ⌜ Sound (now mem) × (nb ≡ blocksOf (now mem)) ⌝ }
     ensures { λ r. ⌜ Melts (now (mem .entry)) s r (now (mem .exit)) ⌝ }
 {
-    let f = block::locate_in(mem, n, s);
-    let Spot::At(i) = f else {
+    let f = blocks::find(mem, nb, s);
+    let Where::In(b, i) = f else {
         return Change::Absent;
     };
-    if mem[5 + i] != s {
+    let t = blocks::start_of(mem, b, i);
+    if t != s {
         return Change::Absent;
     }
-    if mem[5 + limit + i] == 0 {
+    let g = blocks::tag_of(mem, b, i);
+    if g == 0 {
         return Change::Absent;
     }
-    block::melt_at(mem, limit, n, i);
+    melting::melt(mem, nb, b, i);
     Change::Done
 }
 
@@ -187,29 +196,31 @@ fn melt_in(mem: &mut [u64], limit: usize, n: usize, s: u64) -> Change
 pub fn melt(mem: &mut [u64], s: u64) -> Change
     ensures { λ r. ⌜ Melts (now (mem .entry)) s r (now (mem .exit)) ⌝ }
 {
-    let h = block::header(mem);
-    let Head::Good(limit, n) = h else {
+    let h = blocks::header(mem);
+    let Head::Good(nb) = h else {
         return Change::NoTable;
     };
-    melt_in(mem, limit, n, s)
+    melt_in(mem, nb, s)
 }
 
-fn at_in(mem: &[u64], limit: usize, n: usize, a: u64) -> Stands
-    requires { ⌜ Sound (now mem) × (limit ≡ limitOf (now mem)) × (n ≡ countOf (now mem)) ⌝ }
+fn at_in(mem: &[u64], nb: usize, a: u64) -> Stands
+    requires { ⌜ Sound (now mem) × (nb ≡ blocksOf (now mem)) ⌝ }
     ensures { λ r. ⌜ Shows (now (mem .entry)) a r ⌝ }
 {
-    let f = block::locate_in(mem, n, a);
-    let Spot::At(i) = f else {
+    let f = blocks::find(mem, nb, a);
+    let Where::In(b, i) = f else {
         return Stands::Outside;
     };
-    let e = block::end_of(mem, n, i);
+    let e = blocks::end_of(mem, nb, b, i);
     if e < a {
         return Stands::Outside;
     }
+    let s = blocks::start_of(mem, b, i);
+    let g = blocks::tag_of(mem, b, i);
     Stands::In {
-        start: mem[5 + i],
+        start: s,
         end: e,
-        tag: mem[5 + limit + i],
+        tag: g,
     }
 }
 
@@ -217,53 +228,53 @@ fn at_in(mem: &[u64], limit: usize, n: usize, a: u64) -> Stands
 pub fn at(mem: &[u64], a: u64) -> Stands
     ensures { λ r. ⌜ Shows (now (mem .entry)) a r ⌝ }
 {
-    let h = block::header(mem);
-    let Head::Good(limit, n) = h else {
+    let h = blocks::header(mem);
+    let Head::Good(nb) = h else {
         return Stands::NoTable;
     };
-    at_in(mem, limit, n, a)
+    at_in(mem, nb, a)
 }
 
 // How many ranges there are, free and granted together; 0 where the header is not a table's.
 pub fn count(mem: &[u64]) -> usize
     ensures { λ r. ⌜ Says (now (mem .entry)) (λ t. length (t .row)) r ⌝ }
 {
-    let h = block::header(mem);
-    let Head::Good(_, n) = h else {
+    let h = blocks::header(mem);
+    let Head::Good(_) = h else {
         return 0;
     };
-    n
+    mem[1] as usize
 }
 
 // How many ranges there may be; 0 where the header is not a table's.
 pub fn limit(mem: &[u64]) -> usize
     ensures { λ r. ⌜ Says (now (mem .entry)) (λ t. t .limit) r ⌝ }
 {
-    let h = block::header(mem);
-    let Head::Good(limit, _) = h else {
+    let h = blocks::header(mem);
+    let Head::Good(_) = h else {
         return 0;
     };
-    limit
+    mem[5] as usize
 }
 
 // The pool's first address; 0 where the header is not a table's.
 pub fn base(mem: &[u64]) -> u64
     ensures { λ r. ⌜ Says (now (mem .entry)) (λ t. t .base) r ⌝ }
 {
-    let h = block::header(mem);
-    let Head::Good(_, _) = h else {
+    let h = blocks::header(mem);
+    let Head::Good(_) = h else {
         return 0;
     };
-    mem[3]
+    mem[2]
 }
 
 // The pool's last address; 0 where the header is not a table's.
 pub fn last(mem: &[u64]) -> u64
     ensures { λ r. ⌜ Says (now (mem .entry)) (λ t. t .top) (r + 1) ⌝ }
 {
-    let h = block::header(mem);
-    let Head::Good(_, _) = h else {
+    let h = blocks::header(mem);
+    let Head::Good(_) = h else {
         return 0;
     };
-    mem[4]
+    mem[3]
 }

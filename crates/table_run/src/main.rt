@@ -111,7 +111,7 @@ fn make(mem: &mut [u64], base: u64, last: u64, limit: usize) {
 }
 
 fn main() {
-    let mut mem = [0u64; 21];
+    let mut mem = [0u64; 329];
     say::text(b"words for 8 ranges: ");
     say::hex(table::words(8) as u64);
     say::text(b"\n");
@@ -155,8 +155,8 @@ fn main() {
 
     make(&mut mem, 2, 1, 8);
     make(&mut mem, 1, 2, 0);
-    make(&mut mem, 1, 2, 9);
-    mem[2] = 9;
+    make(&mut mem, 1, 2, 33);
+    mem[1] = 9;
     lowest(&mem, 1, 1);
     melt(&mut mem, 0);
 }

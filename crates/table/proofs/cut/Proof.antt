@@ -1,7 +1,8 @@
 -- `table::cut` meets its contract. Assumes nothing.
-use mathlib.Core.Path.{refl}
 use native.Mathlib.Omega.{arith}
 use Rattle.table.specs.Contract.{Cuts}
+use mathlib.Core.Path.{refl}
+use Prim.Native.Nat.{_<_}
 use Rattle.table.proofs.Cuts.{good-head, cut-no-table}
 use borrow.Author.Needs.{needs}
 use Rattle.table.proofs.cut.Statement.{statement}
@@ -28,19 +29,10 @@ same-length : tie.Need-same-length
 same-length c = search needs
 
 returns-3 : tie.Need-returns-3
-returns-3 c =
-    let st = c .before .before .before .before .before .before .before in
-    let a = st .args in
-    let m = a .mem .now in
-    cut-no-table m (a .a) (a .size) (a .tag) (omega arith) (omega arith) (c .before .before .header .ensures) (c .enum-told .given .1)
+returns-3 c = let st = c .before .before .before .before .before .before .before in let a = st .args in let m = a .mem .now in let p : 0 < a .size = omega arith in let q : 0 < a .tag = omega arith in cut-no-table m (a .a) (a .size) (a .tag) p q (c .before .before .header .ensures) (c .enum-told .given .1)
 
 cut-in-requires : tie.Need-cut-in-requires
-cut-in-requires c κs =
-    let st = c .before .before .before .before .before .before .before .before .before in
-    let a = st .args in
-    let m = a .mem .now in
-    let g = good-head m (c .before .before .before .before .header .ensures) (c .before .before .h .given .1) in
-    (g .0, g .1, g .2, omega arith, omega arith)
+cut-in-requires c κs = let st = c .before .before .before .before .before .before .before .before .before in let a = st .args in let m = a .mem .now in let g = good-head m (c .before .before .before .before .header .ensures) (c .before .before .h .given .1) in (g .0, g .1, omega arith, omega arith)
 
 same-length-2 : tie.Need-same-length-2
 same-length-2 c = search needs

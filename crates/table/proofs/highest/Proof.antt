@@ -1,6 +1,6 @@
 -- `table::highest` meets its contract. Assumes nothing.
-use Prim.Native.Nat.{_<_}
 use native.Mathlib.Omega.{arith}
+use Prim.Native.Nat.{_<_}
 use Rattle.ranges.specs.Align.{PowerOfTwo}
 use Rattle.ranges.proofs.Powers.{power-pos, proved, refuted}
 use Rattle.table.specs.Contract.{FindsHighest}
@@ -31,32 +31,16 @@ enum-told : tie.Need-enum-told
 enum-told c = search needs
 
 returns-3 : tie.Need-returns-3
-returns-3 c =
-    let st = c .before .before .before .before .before .before .before in
-    let a = st .args in
-    let m = a .mem .now in
-    let p = proved (c .before .before .before .before .is-power-of-two .result) (PowerOfTwo (a .align)) (c .before .before .before .if2 .left) (c .before .before .before .before .is-power-of-two .ensures) in
-    let z : 0 < a .size = omega arith in
-    high-no-table m (a .size) (a .align) (z, p) (c .before .before .header .ensures) (c .enum-told .given .1)
+returns-3 c = let st = c .before .before .before .before .before .before .before in let a = st .args in let m = a .mem .now in let p = proved (c .before .before .before .before .is-power-of-two .result) (PowerOfTwo (a .align)) (c .before .before .before .if2 .left) (c .before .before .before .before .is-power-of-two .ensures) in let z : 0 < a .size = omega arith in high-no-table m (a .size) (a .align) (z, p) (c .before .before .header .ensures) (c .enum-told .given .1)
 
-sub-highest-in : tie.Need-sub-highest-in
-sub-highest-in c = search needs
+sub-search-down : tie.Need-sub-search-down
+sub-search-down c = search needs
 
-sub-highest-in-2 : tie.Need-sub-highest-in-2
-sub-highest-in-2 c =
-    let st = c .before .before .before .before .before .before .before .before in
-    let a = st .args in
-    let m = a .mem .now in
-    let p = proved (c .before .before .before .before .before .is-power-of-two .result) (PowerOfTwo (a .align)) (c .before .before .before .before .if2 .left) (c .before .before .before .before .before .is-power-of-two .ensures) in
-    let z : 0 < a .size = omega arith in
-    power-pos (a .align) p
+sub-search-down-2 : tie.Need-sub-search-down-2
+sub-search-down-2 c = let st = c .before .before .before .before .before .before .before .before in let a = st .args in let m = a .mem .now in let p = proved (c .before .before .before .before .before .is-power-of-two .result) (PowerOfTwo (a .align)) (c .before .before .before .before .if2 .left) (c .before .before .before .before .before .is-power-of-two .ensures) in let z : 0 < a .size = omega arith in power-pos (a .align) p
 
-highest-in-requires : tie.Need-highest-in-requires
-highest-in-requires c κs =
-    let st = c .before .before .before .before .before .before .before .before in
-    let a = st .args in
-    let m = a .mem .now in
-    good-head m (c .before .before .before .header .ensures) (c .before .h .given .1)
+search-down-requires : tie.Need-search-down-requires
+search-down-requires c κs = let st = c .before .before .before .before .before .before .before .before in let a = st .args in let m = a .mem .now in good-head m (c .before .before .before .header .ensures) (c .before .h .given .1)
 
 enum-known-f : tie.Need-enum-known-f
 enum-known-f c = search needs
@@ -65,24 +49,10 @@ enum-told-2 : tie.Need-enum-told-2
 enum-told-2 c = search needs
 
 returns-4 : tie.Need-returns-4
-returns-4 c =
-    let st = c .before .before .before .before .before .before .before .before .before .before .before in
-    let a = st .args in
-    let m = a .mem .now in
-    let p = proved (c .before .before .before .before .before .before .before .before .is-power-of-two .result) (PowerOfTwo (a .align)) (c .before .before .before .before .before .before .before .if2 .left) (c .before .before .before .before .before .before .before .before .is-power-of-two .ensures) in
-    let z : 0 < a .size = omega arith in
-    let g = good-head m (c .before .before .before .before .before .before .header .ensures) (c .before .before .before .before .h .given .1) in
-    high-none m (a .size) (a .align) (z, p) (g .0) (c .before .before .highest-in .ensures) (c .enum-told2 .given .1)
+returns-4 c = let st = c .before .before .before .before .before .before .before .before .before .before .before in let a = st .args in let m = a .mem .now in let p = proved (c .before .before .before .before .before .before .before .before .is-power-of-two .result) (PowerOfTwo (a .align)) (c .before .before .before .before .before .before .before .if2 .left) (c .before .before .before .before .before .before .before .before .is-power-of-two .ensures) in let z : 0 < a .size = omega arith in high-none m (a .size) (a .align) (z, p) (c .before .before .search-down .ensures) (c .enum-told2 .given .1)
 
 returns-5 : tie.Need-returns-5
-returns-5 c =
-    let st = c .before .before .before .before .before .before .before .before .before .before .before .before in
-    let a = st .args in
-    let m = a .mem .now in
-    let p = proved (c .before .before .before .before .before .before .before .before .before .is-power-of-two .result) (PowerOfTwo (a .align)) (c .before .before .before .before .before .before .before .before .if2 .left) (c .before .before .before .before .before .before .before .before .before .is-power-of-two .ensures) in
-    let z : 0 < a .size = omega arith in
-    let g = good-head m (c .before .before .before .before .before .before .before .header .ensures) (c .before .before .before .before .before .h .given .1) in
-    high-at m (a .size) (a .align) (z, p) (g .0) (c .before .before .before .highest-in .ensures) (c .before .f .given .1)
+returns-5 c = let st = c .before .before .before .before .before .before .before .before .before .before .before .before in let a = st .args in let m = a .mem .now in let p = proved (c .before .before .before .before .before .before .before .before .before .is-power-of-two .result) (PowerOfTwo (a .align)) (c .before .before .before .before .before .before .before .before .if2 .left) (c .before .before .before .before .before .before .before .before .before .is-power-of-two .ensures) in let z : 0 < a .size = omega arith in high-at m (a .size) (a .align) (z, p) (c .before .before .before .search-down .ensures) (c .before .f .given .1)
 
 pub highest-spec : {M : Type 1} → statement M
 highest-spec =
@@ -95,9 +65,9 @@ highest-spec =
     enum-known-h
     enum-told
     returns-3
-    sub-highest-in
-    sub-highest-in-2
-    highest-in-requires
+    sub-search-down
+    sub-search-down-2
+    search-down-requires
     enum-known-f
     enum-told-2
     returns-4

@@ -1,6 +1,6 @@
 -- `table::lowest` meets its contract. Assumes nothing.
-use Prim.Native.Nat.{_<_}
 use native.Mathlib.Omega.{arith}
+use Prim.Native.Nat.{_<_}
 use Rattle.ranges.specs.Align.{PowerOfTwo}
 use Rattle.ranges.proofs.Powers.{power-pos, proved, refuted}
 use Rattle.table.specs.Contract.{FindsLowest}
@@ -31,32 +31,16 @@ enum-told : tie.Need-enum-told
 enum-told c = search needs
 
 returns-3 : tie.Need-returns-3
-returns-3 c =
-    let st = c .before .before .before .before .before .before .before in
-    let a = st .args in
-    let m = a .mem .now in
-    let p = proved (c .before .before .before .before .is-power-of-two .result) (PowerOfTwo (a .align)) (c .before .before .before .if2 .left) (c .before .before .before .before .is-power-of-two .ensures) in
-    let z : 0 < a .size = omega arith in
-    low-no-table m (a .size) (a .align) (z, p) (c .before .before .header .ensures) (c .enum-told .given .1)
+returns-3 c = let st = c .before .before .before .before .before .before .before in let a = st .args in let m = a .mem .now in let p = proved (c .before .before .before .before .is-power-of-two .result) (PowerOfTwo (a .align)) (c .before .before .before .if2 .left) (c .before .before .before .before .is-power-of-two .ensures) in let z : 0 < a .size = omega arith in low-no-table m (a .size) (a .align) (z, p) (c .before .before .header .ensures) (c .enum-told .given .1)
 
-sub-lowest-in : tie.Need-sub-lowest-in
-sub-lowest-in c = search needs
+sub-search-up : tie.Need-sub-search-up
+sub-search-up c = search needs
 
-sub-lowest-in-2 : tie.Need-sub-lowest-in-2
-sub-lowest-in-2 c =
-    let st = c .before .before .before .before .before .before .before .before in
-    let a = st .args in
-    let m = a .mem .now in
-    let p = proved (c .before .before .before .before .before .is-power-of-two .result) (PowerOfTwo (a .align)) (c .before .before .before .before .if2 .left) (c .before .before .before .before .before .is-power-of-two .ensures) in
-    let z : 0 < a .size = omega arith in
-    power-pos (a .align) p
+sub-search-up-2 : tie.Need-sub-search-up-2
+sub-search-up-2 c = let st = c .before .before .before .before .before .before .before .before in let a = st .args in let m = a .mem .now in let p = proved (c .before .before .before .before .before .is-power-of-two .result) (PowerOfTwo (a .align)) (c .before .before .before .before .if2 .left) (c .before .before .before .before .before .is-power-of-two .ensures) in let z : 0 < a .size = omega arith in power-pos (a .align) p
 
-lowest-in-requires : tie.Need-lowest-in-requires
-lowest-in-requires c κs =
-    let st = c .before .before .before .before .before .before .before .before in
-    let a = st .args in
-    let m = a .mem .now in
-    good-head m (c .before .before .before .header .ensures) (c .before .h .given .1)
+search-up-requires : tie.Need-search-up-requires
+search-up-requires c κs = let st = c .before .before .before .before .before .before .before .before in let a = st .args in let m = a .mem .now in good-head m (c .before .before .before .header .ensures) (c .before .h .given .1)
 
 enum-known-f : tie.Need-enum-known-f
 enum-known-f c = search needs
@@ -65,24 +49,10 @@ enum-told-2 : tie.Need-enum-told-2
 enum-told-2 c = search needs
 
 returns-4 : tie.Need-returns-4
-returns-4 c =
-    let st = c .before .before .before .before .before .before .before .before .before .before .before in
-    let a = st .args in
-    let m = a .mem .now in
-    let p = proved (c .before .before .before .before .before .before .before .before .is-power-of-two .result) (PowerOfTwo (a .align)) (c .before .before .before .before .before .before .before .if2 .left) (c .before .before .before .before .before .before .before .before .is-power-of-two .ensures) in
-    let z : 0 < a .size = omega arith in
-    let g = good-head m (c .before .before .before .before .before .before .header .ensures) (c .before .before .before .before .h .given .1) in
-    low-none m (a .size) (a .align) (z, p) (g .0) (c .before .before .lowest-in .ensures) (c .enum-told2 .given .1)
+returns-4 c = let st = c .before .before .before .before .before .before .before .before .before .before .before in let a = st .args in let m = a .mem .now in let p = proved (c .before .before .before .before .before .before .before .before .is-power-of-two .result) (PowerOfTwo (a .align)) (c .before .before .before .before .before .before .before .if2 .left) (c .before .before .before .before .before .before .before .before .is-power-of-two .ensures) in let z : 0 < a .size = omega arith in low-none m (a .size) (a .align) (z, p) (c .before .before .search-up .ensures) (c .enum-told2 .given .1)
 
 returns-5 : tie.Need-returns-5
-returns-5 c =
-    let st = c .before .before .before .before .before .before .before .before .before .before .before .before in
-    let a = st .args in
-    let m = a .mem .now in
-    let p = proved (c .before .before .before .before .before .before .before .before .before .is-power-of-two .result) (PowerOfTwo (a .align)) (c .before .before .before .before .before .before .before .before .if2 .left) (c .before .before .before .before .before .before .before .before .before .is-power-of-two .ensures) in
-    let z : 0 < a .size = omega arith in
-    let g = good-head m (c .before .before .before .before .before .before .before .header .ensures) (c .before .before .before .before .before .h .given .1) in
-    low-at m (a .size) (a .align) (z, p) (g .0) (c .before .before .before .lowest-in .ensures) (c .before .f .given .1)
+returns-5 c = let st = c .before .before .before .before .before .before .before .before .before .before .before .before in let a = st .args in let m = a .mem .now in let p = proved (c .before .before .before .before .before .before .before .before .before .is-power-of-two .result) (PowerOfTwo (a .align)) (c .before .before .before .before .before .before .before .before .if2 .left) (c .before .before .before .before .before .before .before .before .before .is-power-of-two .ensures) in let z : 0 < a .size = omega arith in low-at m (a .size) (a .align) (z, p) (c .before .before .before .search-up .ensures) (c .before .f .given .1)
 
 pub lowest-spec : {M : Type 1} → statement M
 lowest-spec =
@@ -95,9 +65,9 @@ lowest-spec =
     enum-known-h
     enum-told
     returns-3
-    sub-lowest-in
-    sub-lowest-in-2
-    lowest-in-requires
+    sub-search-up
+    sub-search-up-2
+    search-up-requires
     enum-known-f
     enum-told-2
     returns-4

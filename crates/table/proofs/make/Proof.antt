@@ -1,6 +1,6 @@
 -- `table::make` meets its contract. Assumes nothing.
-use mathlib.Core.Path.{refl, sym, _∙_}
 use native.Mathlib.Omega.{arith}
+use mathlib.Core.Path.{refl, sym, _∙_}
 use lib.ListN.{length-set}
 use Rattle.table.specs.Contract.{Makes}
 use Rattle.table.proofs.Making.{words-none, words-some, words-for, made-holds}
@@ -21,101 +21,50 @@ returns-2 c = (refl, λ w. words-none (c .before .before .before .before .args .
 
 returns-3 : tie.Need-returns-3
 unfolding Makes
-returns-3 c =
-    let st = c .before .before .before .before .before in
-    let a = st .args in
-    let m = a .mem .now in
-    let k = words-some (a .limit) (λ e. c .before .if2 .left (c .before .before .words .ensures ∙ e)) in
-    let n = words-for (a .limit) (k .0) (k .1) in
-    (refl, (omega arith, k .0, k .1), omega (arith, c .before .before .words .ensures, c .if3 .taken))
-
-slice-write-mem : tie.Need-slice-write-mem
-slice-write-mem c = search needs
-
-slice-write-mem-2 : tie.Need-slice-write-mem-2
-slice-write-mem-2 c =
-    let st = c .before .before .before .before .before in
-    let a = st .args in
-    let m = a .mem .now in
-    let k = words-some (a .limit) (λ e. c .before .if2 .left (c .before .before .words .ensures ∙ e)) in
-    let n = words-for (a .limit) (k .0) (k .1) in
-    simp length-set (omega (arith, c .before .before .words .ensures))
-
-slice-write-mem-3 : tie.Need-slice-write-mem-3
-slice-write-mem-3 c =
-    let st = c .before .before .before .before .before in
-    let a = st .args in
-    let m = a .mem .now in
-    let k = words-some (a .limit) (λ e. c .before .if2 .left (c .before .before .words .ensures ∙ e)) in
-    let n = words-for (a .limit) (k .0) (k .1) in
-    simp length-set (omega (arith, c .before .before .words .ensures))
-
-slice-write-mem-4 : tie.Need-slice-write-mem-4
-slice-write-mem-4 c =
-    let st = c .before .before .before .before .before in
-    let a = st .args in
-    let m = a .mem .now in
-    let k = words-some (a .limit) (λ e. c .before .if2 .left (c .before .before .words .ensures ∙ e)) in
-    let n = words-for (a .limit) (k .0) (k .1) in
-    simp length-set (omega (arith, c .before .before .words .ensures))
-
-slice-write-mem-5 : tie.Need-slice-write-mem-5
-slice-write-mem-5 c =
-    let st = c .before .before .before .before .before in
-    let a = st .args in
-    let m = a .mem .now in
-    let k = words-some (a .limit) (λ e. c .before .if2 .left (c .before .before .words .ensures ∙ e)) in
-    let n = words-for (a .limit) (k .0) (k .1) in
-    simp length-set (omega (arith, c .before .before .words .ensures))
-
-slice-write-mem-6 : tie.Need-slice-write-mem-6
-slice-write-mem-6 c =
-    let st = c .before .before .before .before .before in
-    let a = st .args in
-    let m = a .mem .now in
-    let k = words-some (a .limit) (λ e. c .before .if2 .left (c .before .before .words .ensures ∙ e)) in
-    let n = words-for (a .limit) (k .0) (k .1) in
-    simp length-set (omega (arith, c .before .before .words .ensures))
+returns-3 c = let st = c .before .before .before .before .before in let a = st .args in let m = a .mem .now in let k = words-some (a .limit) (λ e. c .before .if2 .left (c .before .before .words .ensures ∙ e)) in let n = words-for (a .limit) (k .0) (k .1) in (refl, (omega arith, k .0, k .1), omega (arith, c .before .before .words .ensures, c .if3 .taken))
 
 add-mem : tie.Need-add-mem
-add-mem c =
-    let st = c .before .before .before .before .before in
-    let a = st .args in
-    let m = a .mem .now in
-    let k = words-some (a .limit) (λ e. c .before .if2 .left (c .before .before .words .ensures ∙ e)) in
-    let n = words-for (a .limit) (k .0) (k .1) in
-    omega arith
+add-mem c = let st = c .before .before .before .before .before in let a = st .args in let m = a .mem .now in let k = words-some (a .limit) (λ e. c .before .if2 .left (c .before .before .words .ensures ∙ e)) in let n = words-for (a .limit) (k .0) (k .1) in record { fits = omega (arith, k .1) }
 
-mul-mem : tie.Need-mul-mem
-mul-mem c =
-    let st = c .before .before .before .before .before in
-    let a = st .args in
-    let m = a .mem .now in
-    let k = words-some (a .limit) (λ e. c .before .if2 .left (c .before .before .words .ensures ∙ e)) in
-    let n = words-for (a .limit) (k .0) (k .1) in
-    omega arith
+slice-write-mem : tie.Need-slice-write-mem
+slice-write-mem c = let st = c .before .before .before .before .before in let a = st .args in let m = a .mem .now in let k = words-some (a .limit) (λ e. c .before .if2 .left (c .before .before .words .ensures ∙ e)) in let n = words-for (a .limit) (k .0) (k .1) in omega (arith, c .before .before .words .ensures)
+
+slice-write-mem-2 : tie.Need-slice-write-mem-2
+slice-write-mem-2 c = let st = c .before .before .before .before .before in let a = st .args in let m = a .mem .now in let k = words-some (a .limit) (λ e. c .before .if2 .left (c .before .before .words .ensures ∙ e)) in let n = words-for (a .limit) (k .0) (k .1) in simp length-set (omega (arith, c .before .before .words .ensures))
+
+slice-write-mem-3 : tie.Need-slice-write-mem-3
+slice-write-mem-3 c = let st = c .before .before .before .before .before in let a = st .args in let m = a .mem .now in let k = words-some (a .limit) (λ e. c .before .if2 .left (c .before .before .words .ensures ∙ e)) in let n = words-for (a .limit) (k .0) (k .1) in simp length-set (omega (arith, c .before .before .words .ensures))
+
+slice-write-mem-4 : tie.Need-slice-write-mem-4
+slice-write-mem-4 c = let st = c .before .before .before .before .before in let a = st .args in let m = a .mem .now in let k = words-some (a .limit) (λ e. c .before .if2 .left (c .before .before .words .ensures ∙ e)) in let n = words-for (a .limit) (k .0) (k .1) in simp length-set (omega (arith, c .before .before .words .ensures))
+
+slice-write-mem-5 : tie.Need-slice-write-mem-5
+slice-write-mem-5 c = let st = c .before .before .before .before .before in let a = st .args in let m = a .mem .now in let k = words-some (a .limit) (λ e. c .before .if2 .left (c .before .before .words .ensures ∙ e)) in let n = words-for (a .limit) (k .0) (k .1) in simp length-set (omega (arith, c .before .before .words .ensures))
+
+slice-write-mem-6 : tie.Need-slice-write-mem-6
+slice-write-mem-6 c = let st = c .before .before .before .before .before in let a = st .args in let m = a .mem .now in let k = words-some (a .limit) (λ e. c .before .if2 .left (c .before .before .words .ensures ∙ e)) in let n = words-for (a .limit) (k .0) (k .1) in simp length-set (omega (arith, c .before .before .words .ensures))
 
 slice-write-mem-7 : tie.Need-slice-write-mem-7
-slice-write-mem-7 c =
-    let st = c .before .before .before .before .before in
-    let a = st .args in
-    let m = a .mem .now in
-    let k = words-some (a .limit) (λ e. c .before .if2 .left (c .before .before .words .ensures ∙ e)) in
-    let n = words-for (a .limit) (k .0) (k .1) in
-    simp length-set (omega (arith, c .before .before .words .ensures))
+slice-write-mem-7 c = let st = c .before .before .before .before .before in let a = st .args in let m = a .mem .now in let k = words-some (a .limit) (λ e. c .before .if2 .left (c .before .before .words .ensures ∙ e)) in let n = words-for (a .limit) (k .0) (k .1) in simp length-set (omega (arith, c .before .before .words .ensures))
+
+slice-write-mem-8 : tie.Need-slice-write-mem-8
+slice-write-mem-8 c = let st = c .before .before .before .before .before in let a = st .args in let m = a .mem .now in let k = words-some (a .limit) (λ e. c .before .if2 .left (c .before .before .words .ensures ∙ e)) in let n = words-for (a .limit) (k .0) (k .1) in simp length-set (omega (arith, c .before .before .words .ensures))
+
+slice-write-mem-9 : tie.Need-slice-write-mem-9
+slice-write-mem-9 c = let st = c .before .before .before .before .before in let a = st .args in let m = a .mem .now in let k = words-some (a .limit) (λ e. c .before .if2 .left (c .before .before .words .ensures ∙ e)) in let n = words-for (a .limit) (k .0) (k .1) in simp length-set (omega (arith, c .before .before .words .ensures))
+
+slice-write-mem-10 : tie.Need-slice-write-mem-10
+slice-write-mem-10 c = let st = c .before .before .before .before .before in let a = st .args in let m = a .mem .now in let k = words-some (a .limit) (λ e. c .before .if2 .left (c .before .before .words .ensures ∙ e)) in let n = words-for (a .limit) (k .0) (k .1) in simp length-set (omega (arith, c .before .before .words .ensures))
+
+slice-write-mem-11 : tie.Need-slice-write-mem-11
+slice-write-mem-11 c = let st = c .before .before .before .before .before in let a = st .args in let m = a .mem .now in let k = words-some (a .limit) (λ e. c .before .if2 .left (c .before .before .words .ensures ∙ e)) in let n = words-for (a .limit) (k .0) (k .1) in simp length-set (omega (arith, c .before .before .words .ensures))
 
 same-length : tie.Need-same-length
-same-length c = search needs
+same-length c = simp length-set
 
 returns-4 : tie.Need-returns-4
 unfolding Makes
-returns-4 c =
-    let st = c .before .before .before .before .before in
-    let a = st .args in
-    let m = a .mem .now in
-    let k = words-some (a .limit) (λ e. c .before .if2 .left (c .before .before .words .ensures ∙ e)) in
-    let n = words-for (a .limit) (k .0) (k .1) in
-    made-holds m (a .base) (a .last) (a .limit) (omega arith) (search needs) (k .0) (k .1) (omega (arith, c .before .before .words .ensures))
+returns-4 c = let st = c .before .before .before .before .before in let a = st .args in let m = a .mem .now in let k = words-some (a .limit) (λ e. c .before .if2 .left (c .before .before .words .ensures ∙ e)) in let n = words-for (a .limit) (k .0) (k .1) in made-holds m (a .base) (a .last) (a .limit) (omega arith) (search needs) (k .0) (k .1) (omega (arith, c .before .before .words .ensures))
 
 pub make-spec : {M : Type 1} → statement M
 make-spec =
@@ -125,14 +74,17 @@ make-spec =
     words-requires
     returns-2
     returns-3
+    add-mem
     slice-write-mem
     slice-write-mem-2
     slice-write-mem-3
     slice-write-mem-4
     slice-write-mem-5
     slice-write-mem-6
-    add-mem
-    mul-mem
     slice-write-mem-7
+    slice-write-mem-8
+    slice-write-mem-9
+    slice-write-mem-10
+    slice-write-mem-11
     same-length
     returns-4)

@@ -1,4 +1,5 @@
 -- `table::melt` meets its contract. Assumes nothing.
+use native.Mathlib.Omega.{arith}
 use Rattle.table.proofs.Cuts.{good-head}
 use Rattle.table.proofs.Melts.{melt-no-table}
 use borrow.Author.Needs.{needs}
@@ -18,18 +19,10 @@ same-length : tie.Need-same-length
 same-length c = search needs
 
 returns : tie.Need-returns
-returns c =
-    let st = c .before .before .before .before .before in
-    let a = st .args in
-    let m = a .mem .now in
-    melt-no-table m (a .s) (c .before .before .header .ensures) (c .enum-told .given .1)
+returns c = let st = c .before .before .before .before .before in let a = st .args in let m = a .mem .now in melt-no-table m (a .s) (c .before .before .header .ensures) (c .enum-told .given .1)
 
 melt-in-requires : tie.Need-melt-in-requires
-melt-in-requires c κs =
-    let st = c .before .before .before .before .before .before .before in
-    let a = st .args in
-    let m = a .mem .now in
-    good-head m (c .before .before .before .before .header .ensures) (c .before .before .h .given .1)
+melt-in-requires c κs = let st = c .before .before .before .before .before .before .before in let a = st .args in let m = a .mem .now in good-head m (c .before .before .before .before .header .ensures) (c .before .before .h .given .1)
 
 same-length-2 : tie.Need-same-length-2
 same-length-2 c = search needs

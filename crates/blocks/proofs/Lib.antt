@@ -1,0 +1,4 @@
+pub mod Parts
+pub mod Flat
+pub mod Finding
+pub mod Searches

@@ -1,0 +1,3 @@
+pub mod Frees
+pub mod Gives
+pub mod Gones

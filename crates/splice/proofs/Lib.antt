@@ -1,0 +1,5 @@
+pub mod Lists
+pub mod Shift
+pub mod Cells
+pub mod Turns
+pub mod Carves

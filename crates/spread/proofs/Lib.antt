@@ -1,0 +1,5 @@
+pub mod Agree
+pub mod Wide
+pub mod Bounds
+pub mod Copies
+pub mod Spreads
