@@ -19,6 +19,7 @@ pub mod RunLaws
 pub mod HistoryLaws
 pub mod ReachLaws
 pub mod CallLaws
+pub mod RebuildLaws
 pub mod NeverTwice
 pub mod ExactLaws
 pub mod Samples

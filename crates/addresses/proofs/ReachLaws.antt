@@ -49,7 +49,7 @@ insert-last from top (p ∷ qs) r o =
     rw (le-ltb (r .start) (p .start) (omega arith), insert-last (suc (p .end)) top qs r (o .2))
 
 -- the first of some ranges in order are in order
-ordered-front : (from top : ℕ) (qs rs : List RangeInclusive) → Ordered from top (qs ++ rs) → Ordered from top qs
+pub ordered-front : (from top : ℕ) (qs rs : List RangeInclusive) → Ordered from top (qs ++ rs) → Ordered from top qs
 unfolding Ordered
 ordered-front from top [] rs o = ordered-le from top rs o
 ordered-front from top (q ∷ qs) rs o = (o .0, o .1, ordered-front (suc (q .end)) top qs rs (o .2))
@@ -76,7 +76,7 @@ unfolding rowFrom
 row-empty base top h = gap-some base top h
 
 -- a pool by its parts
-abbrev pool : ℕ → ℕ → ℕ → List RangeInclusive → Pool
+abbrev pub pool : ℕ → ℕ → ℕ → List RangeInclusive → Pool
 pool base top limit rs = record { state = state base top rs; limit = limit }
 
 -- a range behind all that are granted is granted where it is asked for, and stands at the end
@@ -95,7 +95,7 @@ module _ (base top limit : ℕ) (qs : List RangeInclusive) (r : RangeInclusive) 
       let h = asked-inside in
       record { allowed = (r .start, omega arith); free = λ x a b. record { above = omega arith; below = omega arith; unheld = λ q m i. omega (arith, front base top qs [] r q o m) } }
 
-  asked-next : next (pool base top limit qs) (Granted r) ≡ pool base top limit (qs ++ r ∷ [])
+  pub asked-next : next (pool base top limit qs) (Granted r) ≡ pool base top limit (qs ++ r ∷ [])
   unfolding next granting
   asked-next = λ i. pool base top limit (insert-last base top qs r o i)
 
@@ -103,14 +103,14 @@ module _ (base top limit : ℕ) (qs : List RangeInclusive) (r : RangeInclusive) 
   unfolding HasRoom granting rowOf
   asked-room = rw (asked-window, insert-last base top qs r o) l
 
-  asked-granted : Does (pool base top limit qs) (ask r) (Granted r)
+  pub asked-granted : Does (pool base top limit qs) (ask r) (Granted r)
   unfolding Does Allocates Chosen
   asked-granted =
       let h = asked-inside in
       (record { some = omega arith; power = (0, refl); aligned = (r .start, omega arith) }, r .start, (refl, asked-fits), asked-room, sym asked-window)
 
 -- so the ranges of a pool are granted one after the other, from below; no table on the way is longer than the last
-reach-from : (base top limit : ℕ) (qs rs : List RangeInclusive) → Ordered base top (qs ++ rs) → length (rowFrom base top (qs ++ rs)) ≤ limit → Runs (pool base top limit qs) (map ask rs) (map Granted rs) (pool base top limit (qs ++ rs))
+pub reach-from : (base top limit : ℕ) (qs rs : List RangeInclusive) → Ordered base top (qs ++ rs) → length (rowFrom base top (qs ++ rs)) ≤ limit → Runs (pool base top limit qs) (map ask rs) (map Granted rs) (pool base top limit (qs ++ rs))
 unfolding Runs
 reach-from base top limit qs [] o l = λ i. pool base top limit (append-nil qs i)
 reach-from base top limit qs (r ∷ rs) o l =

@@ -109,7 +109,7 @@ fn back(mem: &mut [u64], start: u64, end: u64) {
 }
 
 fn worked() {
-    let mut mem = [0u64; 64];
+    let mut mem = [0u64; 329];
     pool(&mut mem, 0x1000, 0x10000, 16);
     first(&mut mem, 0x800, 0x100);
     first(&mut mem, 0x400, 0x1000);
@@ -124,7 +124,7 @@ fn worked() {
 }
 
 fn inside_a_granted_range() {
-    let mut mem = [0u64; 64];
+    let mut mem = [0u64; 329];
     pool(&mut mem, 0, 0x1000, 16);
     first(&mut mem, 0x1000, 1);
     exact(&mut mem, 0x10, 1, 0x100);
@@ -132,27 +132,27 @@ fn inside_a_granted_range() {
 }
 
 fn the_whole_from_zero() {
-    let mut mem = [0u64; 64];
+    let mut mem = [0u64; 329];
     pool(&mut mem, 0, 0x1000, 16);
     last(&mut mem, 0x1000, 1);
 }
 
 fn freed_from_one() {
-    let mut mem = [0u64; 64];
+    let mut mem = [0u64; 329];
     pool(&mut mem, 1, 0x1000, 16);
     first(&mut mem, 0x10, 1);
     back(&mut mem, 1, 0x10);
 }
 
 fn freed_before_the_end() {
-    let mut mem = [0u64; 64];
+    let mut mem = [0u64; 329];
     pool(&mut mem, M - 0xfff, 0x1000, 16);
     exact(&mut mem, 0x10, 1, M - 0x10);
     back(&mut mem, M - 0x10, M - 1);
 }
 
 fn melted_with_one_address() {
-    let mut mem = [0u64; 64];
+    let mut mem = [0u64; 329];
     pool(&mut mem, 0x10, 0x10, 16);
     exact(&mut mem, 1, 1, 0x10);
     exact(&mut mem, 4, 1, 0x11);
@@ -162,13 +162,13 @@ fn melted_with_one_address() {
 }
 
 fn exact_at_the_last_address() {
-    let mut mem = [0u64; 64];
+    let mut mem = [0u64; 329];
     pool(&mut mem, 0x10, 0x10, 16);
     exact(&mut mem, 1, 1, 0x1f);
 }
 
 fn granted_to_the_end() {
-    let mut mem = [0u64; 64];
+    let mut mem = [0u64; 329];
     pool(&mut mem, M - 0xfff, 0x1000, 16);
     last(&mut mem, 0x10, 1);
     pool(&mut mem, M - 0xfff, 0x1000, 16);
@@ -178,19 +178,19 @@ fn granted_to_the_end() {
 }
 
 fn exact_outside() {
-    let mut mem = [0u64; 64];
+    let mut mem = [0u64; 329];
     pool(&mut mem, 0, 0x1000, 16);
     exact(&mut mem, 1, 1, M);
 }
 
 fn freed_what_is_free() {
-    let mut mem = [0u64; 64];
+    let mut mem = [0u64; 329];
     pool(&mut mem, 0x10, 0x10, 16);
     back(&mut mem, 0x10, 0x1f);
 }
 
 fn pools() {
-    let mut mem = [0u64; 64];
+    let mut mem = [0u64; 329];
     pool(&mut mem, 5, 0, 16);
     pool(&mut mem, 2, M, 16);
     pool(&mut mem, 1, M, 0);
@@ -200,7 +200,7 @@ fn pools() {
 }
 
 fn ends() {
-    let mut mem = [0u64; 64];
+    let mut mem = [0u64; 329];
     pool(&mut mem, M - 0xfff, 0x1000, 16);
     exact(&mut mem, 0x11, 1, M - 0xf);
     exact(&mut mem, 2, 1, M);
@@ -210,7 +210,7 @@ fn ends() {
 }
 
 fn pairs_and_requests() {
-    let mut mem = [0u64; 64];
+    let mut mem = [0u64; 329];
     pool(&mut mem, 0, 0x1000, 16);
     back(&mut mem, 0, M);
     back(&mut mem, 2, 1);
@@ -222,7 +222,7 @@ fn pairs_and_requests() {
 }
 
 fn full() {
-    let mut mem = [0u64; 64];
+    let mut mem = [0u64; 329];
     pool(&mut mem, 16, 16, 2);
     exact(&mut mem, 1, 1, 20);
     first(&mut mem, 1, 1);
@@ -231,7 +231,7 @@ fn full() {
 }
 
 fn no_allocator() {
-    let mut mem = [0u64; 64];
+    let mut mem = [0u64; 329];
     first(&mut mem, 1, 1);
     last(&mut mem, 1, 1);
     exact(&mut mem, 1, 1, 16);
