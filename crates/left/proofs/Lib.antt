@@ -1,0 +1,5 @@
+-- Laws of what is left of a pool.
+pub mod LeftLaws
+pub mod AskLaws
+pub mod ToldLaws
+pub mod Samples
