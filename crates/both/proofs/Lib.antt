@@ -1,0 +1,3 @@
+-- Laws of asking for several things at once.
+pub mod BothLaws
+pub mod NoneLaws

@@ -1,0 +1,3 @@
+pub mod Copy
+pub mod Steps
+pub mod Two

@@ -1,0 +1,2 @@
+-- Laws of copies of id allocators.
+pub mod CopyLaws
