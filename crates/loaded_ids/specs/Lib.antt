@@ -1,0 +1,3 @@
+pub mod Misfits
+pub mod Contract
+pub mod Steps

@@ -1,0 +1,3 @@
+-- Laws of saved pools.
+pub mod TileLaws
+pub mod WriteLaws

@@ -1,0 +1,2 @@
+-- Laws of saved ids.
+pub mod WriteLaws
