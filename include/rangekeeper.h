@@ -7,11 +7,15 @@
  * of any pointer:
  *   - `mem` points to `words` words, and may be NULL only where `words` is 0;
  *   - an out-parameter is not NULL, and lies neither in the block nor on another out-parameter;
+ *   - two blocks of one call do not overlap;
  *   - while a function runs that may change a block, no other thread uses that block.
  *
  * A function that makes or changes an allocator returns a reason, 0 for done. AFTER A REFUSAL THE BLOCK IS WORD FOR WORD AS IT WAS, AND SO
- * IS EACH OUT-PARAMETER. What each function promises is proved of its source, for every input; its contract stands in the crate
- * `rangekeeper`, under the same name.
+ * IS EACH OUT-PARAMETER. There are two exceptions. Where several things are asked for at once, *refused then tells whose refusal it was, and a
+ * block from which an earlier thing had to be given back holds just the state that it held, though not in the same words. Where bytes are
+ * read that are no saved allocator, *at then tells the place of the flaw. What each
+ * function promises is proved of its source, for every input; its contract stands in the crates whose names begin with `rangekeeper`, under
+ * the same name.
  */
 #ifndef RANGEKEEPER_H
 #define RANGEKEEPER_H
@@ -38,6 +42,19 @@ extern "C" {
 #define RK_NO_ROOM 11u               /* the limit is not 1 to 4,096, too few words are lent, or the table is full */
 #define RK_INVALID_POLICY 12u        /* a number that stands for no policy */
 #define RK_NO_STATE 13u              /* the block holds no allocator of the kind that is asked */
+
+/* What is wrong with bytes that are no saved allocator. The numbers never change. */
+#define RK_SAVED_SHORT 101u    /* they end too early */
+#define RK_SAVED_KIND 102u     /* they are of another kind */
+#define RK_SAVED_VERSION 103u  /* they are of another version */
+#define RK_SAVED_CHECK 104u    /* a check is not that of what stands before it */
+#define RK_SAVED_BOUNDS 105u   /* no such pool, no such interval, or a next new id that does not belong to it */
+#define RK_SAVED_LIMIT 106u    /* a limit above 4,096 */
+#define RK_SAVED_COUNT 107u    /* no range, more ranges than the limit, or half a range */
+#define RK_SAVED_STATE 108u    /* a range that is neither free nor granted */
+#define RK_SAVED_ORDER 109u    /* a range that does not start where it is to; a freed id that is not above the one before, or below the lowest */
+#define RK_SAVED_OUTSIDE 110u  /* a range past the pool's last address; a freed id that is not below the next new one */
+#define RK_SAVED_TOUCHING 111u /* two free ranges that touch */
 
 /* The policies of rk_address_allocate. */
 #define RK_FIRST 0u /* as low as possible */
@@ -86,6 +103,26 @@ uint64_t rk_address_base(const uint64_t *mem, size_t words);
 /* The pool's last address. 0 where the block is seen to hold no allocator. */
 uint64_t rk_address_end(const uint64_t *mem, size_t words);
 
+/* What is left: *free becomes the number of the pool's addresses that are free, *largest the size of the largest free range, which is the
+ * greatest size that a request with alignment 1 finds a place for; 0 and 0 where nothing is free. Both fit: a pool has at most 2^64 - 1
+ * addresses, and one that is all free answers its size twice. It visits each range once. A block that holds an allocator is not refused.
+ * Refused: a block that is seen to hold no allocator (RK_NO_STATE). */
+uint32_t rk_address_left(const uint64_t *mem, size_t words, uint64_t *free, uint64_t *largest);
+
+/* How many bytes the allocator takes when it is saved: 64, and 16 for each range. 0 where the block is seen to hold no allocator. */
+size_t rk_address_saved_bytes(const uint64_t *mem, size_t words);
+
+/* Writes the allocator into the first of the `length` bytes, in the format of docs/FORMAT.md; *written becomes their number. No byte behind
+ * them is changed.
+ * Refused, in this order: a block that holds no allocator (RK_NO_STATE); too few bytes (RK_NO_ROOM). Then no byte is changed. */
+uint32_t rk_address_save(const uint64_t *mem, size_t words, uint8_t *bytes, size_t length, size_t *written);
+
+/* Makes the block hold the allocator with which the bytes begin, whatever it held; *at becomes the number of its bytes. What is behind them is
+ * not looked at. What was saved is accepted, and nothing that no sequence of operations could have made.
+ * Refused: bytes that are no saved address allocator (RK_SAVED_..; *at becomes the place of the byte at which the flaw stands); a block that is
+ * too short for the limit that was read (RK_NO_ROOM; *at is as it was). The bytes and the block may not overlap. */
+uint32_t rk_address_load(const uint8_t *bytes, size_t length, uint64_t *mem, size_t words, size_t *at);
+
 /* ---- ids -------------------------------------------------------------------------------------------------------------------------- */
 
 /* How many words a block takes for the ids from `lowest` to `highest`, about one for each 63 ids; 0 where there are no such ids. */
@@ -104,6 +141,54 @@ uint32_t rk_id_allocate(uint64_t *mem, size_t words, uint32_t *id);
  * Refused, in this order: not an id of the interval (RK_OUT_OF_RANGE); never granted so far (RK_NEVER_ALLOCATED); not granted now
  * (RK_ALREADY_RELEASED). A block that holds no allocator is refused before (RK_NO_STATE). */
 uint32_t rk_id_free(uint64_t *mem, size_t words, uint32_t id);
+
+/* Whether an id is granted now: 1 where it is, 0 for every other number, those outside the interval included. 0 where the block is seen
+ * to hold no allocator. */
+uint32_t rk_id_is_allocated(const uint64_t *mem, size_t words, uint32_t id);
+
+/* How many ids are not granted now, up to 2^32. A step for each 64 ids. 0 where the block is seen to hold no allocator. */
+uint64_t rk_id_free_count(const uint64_t *mem, size_t words);
+
+/* How many bytes the allocator takes when it is saved: 64, and 8 for each id that was granted and is free now. It asks for each id below the
+ * next new one. 0 where the block is seen to hold no allocator. */
+size_t rk_id_saved_bytes(const uint64_t *mem, size_t words);
+
+/* As rk_address_save. */
+uint32_t rk_id_save(const uint64_t *mem, size_t words, uint8_t *bytes, size_t length, size_t *written);
+
+/* As rk_address_load, for ids. It takes a step for each id below the next new one. */
+uint32_t rk_id_load(const uint8_t *bytes, size_t length, uint64_t *mem, size_t words, size_t *at);
+
+/* ---- copies ----------------------------------------------------------------------------------------------------------------------- */
+
+/* Makes the block `copy` hold the pool that `mem` holds, with room for `limit` ranges, which is the pool's limit or a larger one. Where the
+ * limits are alike, both answer alike from then on; what is done to one does not touch the other. `mem` is not changed. It visits each
+ * range once.
+ * Refused, in this order: `mem` is seen to hold no allocator (RK_NO_STATE); a limit that is below the pool's or above 4,096, or fewer words
+ * than it takes (RK_NO_ROOM). */
+uint32_t rk_address_copy(const uint64_t *mem, size_t words, uint64_t *copy, size_t copy_words, size_t limit);
+
+/* Makes the block `copy` hold the ids that `mem` holds: the same interval, the same ids granted, and as many ever granted. `mem` is not
+ * changed.
+ * Refused, in this order: `mem` is seen to hold no allocator (RK_NO_STATE); fewer words than rk_id_words says (RK_NO_ROOM). */
+uint32_t rk_id_copy(const uint64_t *mem, size_t words, uint64_t *copy, size_t copy_words);
+
+/* ---- several things or none ------------------------------------------------------------------------------------------------------- */
+
+/* Grants a range of each of two pools, or of neither. Each is asked for as by rk_address_allocate, the first pool's first; *start1 and
+ * *start2 become the first addresses.
+ * Refused: the number of a policy, of the first and then of the second, stands for none (RK_INVALID_POLICY); else as rk_address_allocate
+ * refuses the first request, or the second. *refused becomes 1 or 2, and *start1 and *start2 are as they were. Where the second pool refuses,
+ * the first pool's range is given back, and its block holds just what it held before. */
+uint32_t rk_both(uint64_t *first, size_t words1, uint64_t size1, uint64_t alignment1, uint32_t policy1, uint64_t address1,
+                 uint64_t *second, size_t words2, uint64_t size2, uint64_t alignment2, uint32_t policy2, uint64_t address2,
+                 uint64_t *start1, uint64_t *start2, uint32_t *refused);
+
+/* The same with an id: all three or nothing. *id becomes the lowest id that was not granted. The id is asked for last, as by
+ * rk_id_allocate, so that none is ever given back; where it is refused, *refused becomes 3. */
+uint32_t rk_all_three(uint64_t *first, size_t words1, uint64_t size1, uint64_t alignment1, uint32_t policy1, uint64_t address1,
+                      uint64_t *second, size_t words2, uint64_t size2, uint64_t alignment2, uint32_t policy2, uint64_t address2,
+                      uint64_t *ids, size_t id_words, uint64_t *start1, uint64_t *start2, uint32_t *id, uint32_t *refused);
 
 #ifdef __cplusplus
 }

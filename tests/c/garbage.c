@@ -1,4 +1,4 @@
-/* Blocks of garbage of every length from 0 to 200 words are lent to every function. What is seen: only known answers; after a refusal, and
+/* Blocks of garbage of every length from 0 to 200 words, and of some up to 720, are lent to every function. What is seen: only known answers; after a refusal, and
  * after a question, the block and the out-parameters as they were; and nothing outside the block touched, by guard words on one side and
  * pages that cannot be read or written on the other.
  *
@@ -13,29 +13,16 @@
 #include <sys/mman.h>
 #include <unistd.h>
 
+#include "random.h"
 #include "rangekeeper.h"
 
-#define LONGEST 200
+#define LONGEST 720 /* three of a table's blocks */
 #define GUARDS 64
 #define ROUNDS 3
+#define FUNCTIONS 13
 #define LAST_REASON RK_NO_STATE
 
-static uint64_t seed = UINT64_C(0x9e3779b97f4a7c15);
 static uint64_t calls, done, refused;
-
-/* xorshift64*: the same numbers in each run */
-static uint64_t next(void)
-{
-    seed ^= seed >> 12;
-    seed ^= seed << 25;
-    seed ^= seed >> 27;
-    return seed * UINT64_C(0x2545f4914f6cdd1d);
-}
-
-static uint64_t below(uint64_t n)
-{
-    return next() % n;
-}
 
 /* a number of the kind that breaks things: the ends, powers of two and their neighbours, small ones, any */
 static uint64_t odd_number(void)
@@ -117,7 +104,7 @@ static void fill(unsigned kind, uint64_t *mem, size_t words)
         while (limit < LONGEST && rk_address_words(limit + 1) <= (kind == 2 ? words : 4 * LONGEST))
             limit++;
         if (rk_address_new(whole, 4 * LONGEST, odd_number() / 2, 1 + below(UINT64_MAX / 2), limit) == RK_DONE)
-            for (i = below(12); i != 0; i--)
+            for (i = below(90); i != 0; i--)
                 (void)rk_address_allocate(whole, 4 * LONGEST, 1 + below(50), 1, (uint32_t)below(2), 0, &start);
     } else {
         highest = (uint32_t)below(64 * words);
@@ -141,7 +128,8 @@ static void call(const struct place *p, size_t words, unsigned function)
 {
     static const char *const names[] = {
         "rk_address_new", "rk_address_allocate", "rk_address_free", "rk_address_at", "rk_address_count", "rk_address_base",
-        "rk_address_end", "rk_id_new", "rk_id_allocate", "rk_id_free",
+        "rk_address_end", "rk_address_left", "rk_id_new", "rk_id_allocate", "rk_id_free", "rk_id_is_allocated",
+        "rk_id_free_count",
     };
     static uint64_t before[LONGEST + 1];
     const uint64_t was = UINT64_C(0x0123456789abcdef);
@@ -183,13 +171,29 @@ static void call(const struct place *p, size_t words, unsigned function)
         asks = 1;
         break;
     case 7:
-        reason = rk_id_new(p->mem, words, (uint32_t)below(100), (uint32_t)odd_number());
+        reason = rk_address_left(p->mem, words, &a, &b);
+        if (reason == RK_DONE && a < b)
+            fail(p, words, names[function], "the largest free range has more addresses than are free");
+        asks = 1;
         break;
     case 8:
+        reason = rk_id_new(p->mem, words, (uint32_t)below(100), (uint32_t)odd_number());
+        break;
+    case 9:
         reason = rk_id_allocate(p->mem, words, &d);
         break;
-    default:
+    case 10:
         reason = rk_id_free(p->mem, words, (uint32_t)odd_number());
+        break;
+    case 11:
+        if (rk_id_is_allocated(p->mem, words, (uint32_t)odd_number()) > 1)
+            fail(p, words, names[function], "neither yes nor no");
+        asks = 1;
+        break;
+    default:
+        if (rk_id_free_count(p->mem, words) > UINT64_C(0x100000000))
+            fail(p, words, names[function], "more ids than there are");
+        asks = 1;
         break;
     }
     calls++;
@@ -214,18 +218,18 @@ int main(void)
     size_t words, i;
     unsigned where, kind, round, function;
     make_pages();
-    for (words = 0; words <= LONGEST; words++)
+    for (words = 0; words <= LONGEST; words += words < 200 ? 1 : 13)
         for (where = 0; where < 2; where++) {
             struct place p = place_of(where, words);
             for (i = 0; i < GUARDS; i++)
                 p.guard[i] = guard_word(i);
             for (kind = 0; kind < 4; kind++)
                 for (round = 0; round < ROUNDS; round++)
-                    for (function = 0; function < 10; function++) {
+                    for (function = 0; function < FUNCTIONS; function++) {
                         fill(kind, p.mem, words);
                         call(&p, words, function);
                         /* and what that left, to another */
-                        call(&p, words, (unsigned)below(10));
+                        call(&p, words, (unsigned)below(FUNCTIONS));
                     }
         }
     printf("%" PRIu64 " calls on garbage: %" PRIu64 " refused, %" PRIu64 " answered, nothing else touched\n", calls, refused, done);

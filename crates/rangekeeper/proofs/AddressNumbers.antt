@@ -1,6 +1,7 @@
 -- What a caller of the address allocator's names learns from a number alone, of a block that holds a pool.
 --     granted-zero, freed-zero        0: what was asked for is done, and the block holds the pool after it
 --     grant-refused, free-refused     a reason's number: it is that reason, and block and out-parameter are as they were
+--     left-done                       what is left is not refused, and the two numbers are right
 -- Assumes nothing.
 use Prim.Native.Nat.{ℕ, _<_}
 use mathlib.Core.Path.{_≡_, sym, _∙_, ap, subst}
@@ -19,6 +20,9 @@ use Rattle.addresses.specs.Operations.{Pool, next, Allocates, Frees}
 use Rattle.addresses.specs.Runs.{Allocate, Release, Does}
 use Rattle.addresses.specs.Held.{Holds}
 use Rattle.addresses.specs.Contract.{Performs, asking, returning}
+use Rattle.left.specs.declared.Left.{Left}
+use Rattle.left.specs.declared.Left.the-variants as left
+use Rattle.left.specs.Contract.{FreeAddresses, LargestFree, Tells}
 use Rattle.rangekeeper.specs.Address as address
 
 -- an answer that is refused has the number of its reason
@@ -64,3 +68,12 @@ free-refused m m′ s e y f =
     let q = refused-of (f .answer) y (f .number) in
     let w : Performs m (returning s e) (Refused y) m′ = subst (λ (x : Answer). Performs m (returning s e) x m′) q (f .done) in
     (w .kept, λ p h. w .right p h .0)
+
+-- what is left of a pool
+pub left-done : (m : List ℕ) (a b r free largest : ℕ) (p : Pool) → address.Leaves m a b r free largest → Holds m p → (r ≡ 0) × FreeAddresses (p .state) free × LargestFree (p .state) largest
+unfolding Tells
+left-done m a b r free largest p g h = go (g .answer) (g .number) (g .count) (g .size) (g .right)
+  where
+    go : (x : Left) → r ≡ address.leftNumber x → free ≡ address.freeOr a x → largest ≡ address.largestOr b x → Tells m x → (r ≡ 0) × FreeAddresses (p .state) free × LargestFree (p .state) largest
+    go (left.Known f l) n c s t = (n, rw c (t p h .0), rw s (t p h .1))
+    go (left.Refused e) n c s t = absurd (t .1 p h)

@@ -14,6 +14,9 @@ use Rattle.addresses.specs.declared.Answer.the-variants.{Granted, Freed, Refuse
 use Rattle.addresses.specs.declared.Setup.{Setup}
 use Rattle.addresses.specs.declared.Setup.the-variants.{Ready, Unfit}
 use Rattle.addresses.specs.Contract as addresses
+use Rattle.left.specs.declared.Left.{Left}
+use Rattle.left.specs.declared.Left.the-variants as left
+use Rattle.left.specs.Contract.{Tells}
 
 -- the number of what `new` answers
 abbrev pub setupNumber : Setup → ℕ
@@ -93,3 +96,25 @@ pub record Shows (m : List ℕ) (at a b c r start end tag : ℕ) : Type 0 where
   pub last : end ≡ endOr b answer
   pub mark : tag ≡ tagOr c answer
   pub right : addresses.Shows m at answer
+
+-- the number of what is left: 0 where it is known
+abbrev pub leftNumber : Left → ℕ
+leftNumber (left.Known f l) = 0
+leftNumber (left.Refused e) = numberOf e
+
+-- what two out-parameters that held `old` hold after it: the free addresses and the largest free range, or what they held
+abbrev pub freeOr : ℕ → Left → ℕ
+freeOr old (left.Known f l) = f
+freeOr old (left.Refused e) = old
+
+abbrev pub largestOr : ℕ → Left → ℕ
+largestOr old (left.Known f l) = l
+largestOr old (left.Refused e) = old
+
+-- what `rk_address_left` does: what `ask` answers, its number, and the two numbers; a and b are what the out-parameters held before
+pub record Leaves (m : List ℕ) (a b r free largest : ℕ) : Type 0 where
+  pub answer : Left
+  pub number : r ≡ leftNumber answer
+  pub count : free ≡ freeOr a answer
+  pub size : largest ≡ largestOr b answer
+  pub right : Tells m answer

@@ -5,9 +5,10 @@ ghost use lib.ListN.{length};
 ghost use Rattle.table.specs.Held.{wordsFor};
 ghost use Rattle.addresses.specs.Meaning.{rowOf};
 ghost use Rattle.addresses.specs.Contract.{Says};
-ghost use Rattle.rangekeeper.specs.Address.{Starts, Allocates, Frees, Shows};
+ghost use Rattle.rangekeeper.specs.Address.{Starts, Allocates, Frees, Shows, Leaves};
 use addresses::Answer;
 use addresses::Setup;
+use left::Left;
 use ranges::AllocPolicy;
 use ranges::Error;
 use ranges::PolicyMade;
@@ -126,4 +127,23 @@ pub extern "C" fn rk_address_end(mem: &[u64]) -> u64
     ensures { λ r. ⌜ Says (now (mem .entry)) (λ p. p .state .top) (r + 1) ⌝ }
 {
     addresses::end(mem)
+}
+
+// How many addresses of the pool are free, and the size of the largest free range: 0 and 0 where nothing is free.
+#[no_mangle]
+pub extern "C" fn rk_address_left(mem: &[u64], free: &mut u64, largest: &mut u64) -> u32
+    ensures { λ r. ⌜ Leaves (now (mem .entry)) (now (free .entry)) (now (largest .entry)) r (now (free .exit)) (now (largest .exit)) ⌝ }
+{
+    let answer = left::ask(mem);
+    match answer {
+        Left::Known {
+            free: f,
+            largest: l,
+        } => {
+            *free = f;
+            *largest = l;
+            0
+        }
+        Left::Refused(e) => e.number(),
+    }
 }

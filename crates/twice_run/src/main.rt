@@ -38,7 +38,7 @@ fn numbers() {
 
 // A window inside a granted range is granted only after the whole range is given back.
 fn windows() {
-    let mut mem = [0u64; 32];
+    let mut mem = [0u64; 329];
     if let Setup::Ready = addresses::new(&mut mem, 0, 0x1000, 8) {
         window(addresses::allocate(&mut mem, 0x1000, 1, AllocPolicy::FirstMatch));
         window(addresses::allocate(&mut mem, 0x10, 1, AllocPolicy::ExactMatch(0x100)));

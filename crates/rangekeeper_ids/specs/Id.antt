@@ -1,6 +1,7 @@
 -- What the id allocator's names answer: the answer of what each calls, as a number, 0 for done. m is the block before, m′ the block after.
 use Prim.Native.Nat.{ℕ}
 use mathlib.Core.Path.{_≡_}
+use mathlib.Core.Bool.{Bool, true, false}
 use mathlib.Core.List.{List}
 use Rattle.ranges.specs.Reasons.{numberOf}
 use Rattle.ids.specs.declared.Answer.{Answer}
@@ -43,3 +44,14 @@ pub record Frees (m : List ℕ) (id r : ℕ) (m′ : List ℕ) : Type 0 where
   pub answer : Answer
   pub number : r ≡ answerNumber answer
   pub done : ids.Performs m (Release id) answer m′
+
+-- the number of a yes or a no
+abbrev pub yesNumber : Bool → ℕ
+yesNumber true = 1
+yesNumber false = 0
+
+-- what `rk_id_is_allocated` answers: what `is_allocated` does, as a number
+pub record Tells (m : List ℕ) (id r : ℕ) : Type 0 where
+  pub answer : Bool
+  pub number : r ≡ yesNumber answer
+  pub right : ids.Tells m id answer

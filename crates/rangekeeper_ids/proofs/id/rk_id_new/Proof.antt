@@ -1,10 +1,10 @@
 -- `rangekeeper::id::rk_id_new` meets its contract: the answer is that of `new`, and each arm returns its number.
 -- Assumes nothing.
 use mathlib.Core.Path.{sym, ap, _∙_}
-use Rattle.rangekeeper.specs.Id.{setupNumber}
+use Rattle.rangekeeper_ids.specs.Id.{setupNumber}
 use borrow.Author.Needs.{needs}
-use Rattle.rangekeeper.proofs.id.rk_id_new.Statement.{statement}
-use Rattle.rangekeeper.proofs.id.rk_id_new.Tie as tie
+use Rattle.rangekeeper_ids.proofs.id.rk_id_new.Statement.{statement}
+use Rattle.rangekeeper_ids.proofs.id.rk_id_new.Tie as tie
 
 new-requires : tie.Need-new-requires
 new-requires c κs = search needs

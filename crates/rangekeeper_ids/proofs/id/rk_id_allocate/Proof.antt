@@ -1,10 +1,10 @@
 -- `rangekeeper::id::rk_id_allocate` meets its contract: the answer is that of `allocate`; each arm returns its number, and the first alone writes.
 -- Assumes nothing.
 use mathlib.Core.Path.{sym, ap, _∙_}
-use Rattle.rangekeeper.specs.Id.{answerNumber, idOr}
+use Rattle.rangekeeper_ids.specs.Id.{answerNumber, idOr}
 use borrow.Author.Needs.{needs}
-use Rattle.rangekeeper.proofs.id.rk_id_allocate.Statement.{statement}
-use Rattle.rangekeeper.proofs.id.rk_id_allocate.Tie as tie
+use Rattle.rangekeeper_ids.proofs.id.rk_id_allocate.Statement.{statement}
+use Rattle.rangekeeper_ids.proofs.id.rk_id_allocate.Tie as tie
 
 allocate-requires : tie.Need-allocate-requires
 allocate-requires c κs = search needs

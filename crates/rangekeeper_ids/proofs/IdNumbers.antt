@@ -15,7 +15,7 @@ use Rattle.ids.specs.State.{State}
 use Rattle.ids.specs.Runs.{Allocate, Release, Does, after}
 use Rattle.ids.specs.Held.{Holds}
 use Rattle.ids.specs.Contract.{Performs}
-use Rattle.rangekeeper.specs.Id as id
+use Rattle.rangekeeper_ids.specs.Id as id
 
 -- an answer that is refused has the number of its reason
 refused-of : (x : Answer) (e : Error) → numberOf e ≡ id.answerNumber x → x ≡ Refused e

@@ -1,10 +1,10 @@
 -- `rangekeeper::id::rk_id_free` meets its contract: the answer is that of `free`, and each arm returns its number.
 -- Assumes nothing.
 use mathlib.Core.Path.{sym, ap, _∙_}
-use Rattle.rangekeeper.specs.Id.{answerNumber}
+use Rattle.rangekeeper_ids.specs.Id.{answerNumber}
 use borrow.Author.Needs.{needs}
-use Rattle.rangekeeper.proofs.id.rk_id_free.Statement.{statement}
-use Rattle.rangekeeper.proofs.id.rk_id_free.Tie as tie
+use Rattle.rangekeeper_ids.proofs.id.rk_id_free.Statement.{statement}
+use Rattle.rangekeeper_ids.proofs.id.rk_id_free.Tie as tie
 
 free-requires : tie.Need-free-requires
 free-requires c κs = search needs

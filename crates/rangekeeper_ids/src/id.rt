@@ -1,7 +1,8 @@
 // The id allocator's names.
 ghost use mathlib.Core.Path.{_≡_};
 ghost use Rattle.ids.specs.Held.{Needs};
-ghost use Rattle.rangekeeper.specs.Id.{Starts, Allocates, Frees};
+ghost use Rattle.ids.specs.Contract.{Leaves};
+ghost use Rattle.rangekeeper_ids.specs.Id.{Starts, Allocates, Frees, Tells};
 use ids::Answer;
 use ids::Setup;
 
@@ -50,4 +51,20 @@ pub extern "C" fn rk_id_free(mem: &mut [u64], id: u32) -> u32
         Answer::Id(_) => 0,
         Answer::Refused(e) => e.number(),
     }
+}
+
+// Whether an id is granted now: 1 where it is, 0 for every other number and where the block holds no allocator.
+#[no_mangle]
+pub extern "C" fn rk_id_is_allocated(mem: &[u64], id: u32) -> u32
+    ensures { λ r. ⌜ Tells (now (mem .entry)) id r ⌝ }
+{
+    if ids::is_allocated(mem, id) { 1 } else { 0 }
+}
+
+// How many ids are not granted now; 0 where the block holds no allocator.
+#[no_mangle]
+pub extern "C" fn rk_id_free_count(mem: &[u64]) -> u64
+    ensures { λ r. ⌜ Leaves (now (mem .entry)) r ⌝ }
+{
+    ids::free_count(mem)
 }

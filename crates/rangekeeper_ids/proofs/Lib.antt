@@ -1,0 +1,2 @@
+-- What a caller learns from the numbers.
+pub mod IdNumbers

@@ -1,0 +1,2 @@
+pub mod SavedAddress
+pub mod SavedId

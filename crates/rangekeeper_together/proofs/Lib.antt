@@ -1,0 +1,3 @@
+-- What a caller learns from the numbers.
+pub mod TogetherLaws
+pub mod TogetherNumbers
