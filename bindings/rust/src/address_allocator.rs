@@ -5,7 +5,8 @@ use core::cmp::Ordering;
 use core::fmt;
 
 use crate::error::{done, Asked};
-use crate::{block, native, AllocPolicy, RangeInclusive, Result};
+use crate::saved::{read, Unreadable};
+use crate::{block, native, word, zeros, AllocPolicy, RangeInclusive, Result};
 
 /// How many ranges, free and granted together, an allocator of [`AddressAllocator::new`] may hold: the most that there can be.
 pub const DEFAULT_LIMIT: usize = 4096;
@@ -45,7 +46,7 @@ impl AddressAllocator {
     }
 
     /// The same with room for `limit` ranges, free and granted together. A grant may need two ranges more than there were, a free needs
-    /// none. The block takes two words for each range, and a few.
+    /// none. The block takes about six words for each range, and at least 329.
     ///
     /// ```
     /// use rangekeeper::{AddressAllocator, AllocPolicy, Error};
@@ -64,17 +65,40 @@ impl AddressAllocator {
         Ok(AddressAllocator { block, limit })
     }
 
+    /// A copy to try things on, with the same ranges granted and room for `limit` ranges, as many as here or more. What is done to one
+    /// leaves the other alone.
+    ///
+    /// ```
+    /// use rangekeeper::{AddressAllocator, AllocPolicy, Error};
+    ///
+    /// let mut pool = AddressAllocator::with_limit(0, 0x100, 2)?;
+    /// pool.allocate(0x10, 1, AllocPolicy::FirstMatch)?;
+    /// let mut copy = pool.copy_with_limit(4)?;
+    /// copy.allocate(0x10, 1, AllocPolicy::ExactMatch(0x80))?;
+    /// assert_eq!(pool.allocate(0x10, 1, AllocPolicy::ExactMatch(0x80)), Err(Error::NoRoom));
+    /// assert_eq!(pool.copy_with_limit(1), Err(Error::NoRoom));
+    /// # Ok::<(), Error>(())
+    /// ```
+    ///
+    /// Refused: a limit below the pool's or above 4,096, or no memory for it (`Error::NoRoom`).
+    pub fn copy_with_limit(&self, limit: usize) -> Result<Self> {
+        let mut block = block(native::address_words(limit));
+        done(native::address_copy(&self.block, &mut block, limit), Asked::default())?;
+        Ok(AddressAllocator { block, limit })
+    }
+
+    /// The block, to be lent for a call.
+    pub(crate) fn lent(&mut self) -> &mut [u64] {
+        &mut self.block
+    }
+
     /// Grants `size` addresses that are free, from a multiple of `alignment` on.
     ///
     /// Refused, in this order: what [`Constraint::new`](crate::Constraint::new) refuses; an exact range whose address is free and whose end
     /// would lie beyond 2^64 - 1 (`Error::Overflow`); no place (`Error::ResourceNotAvailable`); more ranges than the limit
     /// (`Error::NoRoom`).
     pub fn allocate(&mut self, size: u64, alignment: u64, policy: AllocPolicy) -> Result<RangeInclusive> {
-        let (number, address) = match policy {
-            AllocPolicy::FirstMatch => (0, 0),
-            AllocPolicy::LastMatch => (1, 0),
-            AllocPolicy::ExactMatch(address) => (2, address),
-        };
+        let (number, address) = policy.number();
         let mut start = 0;
         let reason = native::address_allocate(&mut self.block, size, alignment, number, address, &mut start);
         done(reason, Asked::size(size))?;
@@ -99,9 +123,71 @@ impl AddressAllocator {
         native::address_end(&self.block)
     }
 
+    /// How many addresses are free.
+    ///
+    /// ```
+    /// use rangekeeper::{AddressAllocator, AllocPolicy, Error};
+    ///
+    /// let mut pool = AddressAllocator::new(0x1000, 0x100)?;
+    /// assert_eq!((pool.free_addresses(), pool.largest_free()), (0x100, 0x100));
+    /// pool.allocate(0x40, 1, AllocPolicy::ExactMatch(0x1010))?;
+    /// assert_eq!((pool.free_addresses(), pool.largest_free()), (0xc0, 0xb0));
+    /// # Ok::<(), Error>(())
+    /// ```
+    pub fn free_addresses(&self) -> u64 {
+        self.left().0
+    }
+
+    /// The size of the largest free range, the greatest for which there is a place at alignment 1; 0 where nothing is free.
+    pub fn largest_free(&self) -> u64 {
+        self.left().1
+    }
+
+    /// Both. A block that holds an allocator is not refused, and this one holds one.
+    fn left(&self) -> (u64, u64) {
+        let (mut free, mut largest) = (0, 0);
+        native::address_left(&self.block, &mut free, &mut largest);
+        (free, largest)
+    }
+
     /// How many ranges, free and granted together, it may hold.
     pub fn limit(&self) -> usize {
         self.limit
+    }
+
+    /// The allocator as bytes, in the format of `docs/FORMAT.md`: pool, limit and granted ranges.
+    ///
+    /// ```
+    /// use rangekeeper::{AddressAllocator, AllocPolicy};
+    ///
+    /// let mut pool = AddressAllocator::new(0x1000, 0x1000)?;
+    /// pool.allocate(0x100, 0x100, AllocPolicy::FirstMatch)?;
+    /// let bytes = pool.to_bytes();
+    /// let (resumed, read) = AddressAllocator::from_bytes(&bytes)?;
+    /// assert_eq!((resumed, read), (pool, bytes.len()));
+    /// # Ok::<(), Box<dyn std::error::Error>>(())
+    /// ```
+    pub fn to_bytes(&self) -> Vec<u8> {
+        let mut bytes = zeros(native::address_saved_bytes(&self.block));
+        let mut written = 0;
+        native::address_save(&self.block, &mut bytes, &mut written);
+        bytes.truncate(written);
+        bytes
+    }
+
+    /// The allocator with which the bytes begin, and how many bytes it takes; what is behind them is not looked at.
+    ///
+    /// Refused: bytes that [`to_bytes`](Self::to_bytes) of no allocator answers, with what is wrong with them, and where.
+    pub fn from_bytes(bytes: &[u8]) -> core::result::Result<(Self, usize), Unreadable> {
+        // A block of no words is too short for every allocator: the bytes are right where that is all that is wrong.
+        let mut at = 0;
+        let reason = native::address_load(bytes, &mut [], &mut at);
+        if reason != native::reason::NO_ROOM {
+            read(reason, at)?;
+        }
+        let mut block = block(native::address_words(word(bytes, 4) as usize));
+        let used = read(native::address_load(bytes, &mut block, &mut at), at)?;
+        Ok((AddressAllocator { block, limit: word(bytes, 4) as usize }, used))
     }
 
     /// The granted ranges, from the lowest on.

@@ -17,6 +17,17 @@ pub enum AllocPolicy {
     ExactMatch(u64),
 }
 
+impl AllocPolicy {
+    /// The library's number for it, and the address that it names.
+    pub(crate) fn number(self) -> (u32, u64) {
+        match self {
+            AllocPolicy::FirstMatch => (0, 0),
+            AllocPolicy::LastMatch => (1, 0),
+            AllocPolicy::ExactMatch(address) => (2, address),
+        }
+    }
+}
+
 /// A request that is in order: a size, an alignment and a policy.
 ///
 /// ```
@@ -60,5 +71,10 @@ impl Constraint {
     /// How many addresses it asks for.
     pub fn size(self) -> u64 {
         self.size
+    }
+    /// As the library takes it.
+    pub(crate) fn numbers(self) -> crate::native::Request {
+        let (policy, address) = self.policy.number();
+        (self.size, self.align, policy, address)
     }
 }

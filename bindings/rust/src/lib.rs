@@ -74,12 +74,16 @@ mod error;
 mod id_allocator;
 mod native;
 mod range;
+mod saved;
+mod together;
 
 pub use address_allocator::{AddressAllocator, DEFAULT_LIMIT};
 pub use constraint::{AllocPolicy, Constraint, DEFAULT_CONSTRAINT_ALIGN};
 pub use error::{Error, Result};
 pub use id_allocator::IdAllocator;
 pub use range::RangeInclusive;
+pub use saved::{Flaw, Unreadable};
+pub use together::{all_three, both, Refused, Which};
 
 /// A block of so many words, to be lent; of none where there is no memory for it, which the library then refuses as too short.
 fn block(words: usize) -> alloc::vec::Vec<u64> {
@@ -88,4 +92,16 @@ fn block(words: usize) -> alloc::vec::Vec<u64> {
         block.resize(words, 0);
     }
     block
+}
+
+/// Word i of bytes that begin with a saved allocator.
+fn word(bytes: &[u8], i: usize) -> u64 {
+    bytes[8 * i..].iter().take(8).rev().fold(0, |word, &byte| word << 8 | u64::from(byte))
+}
+
+/// So many bytes, to be lent.
+fn zeros(bytes: usize) -> alloc::vec::Vec<u8> {
+    let mut zeros = alloc::vec::Vec::new();
+    zeros.resize(bytes, 0);
+    zeros
 }

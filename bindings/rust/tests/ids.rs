@@ -83,3 +83,64 @@ fn a_large_interval() {
     }
     assert_eq!(many.allocate_id(), Err(Error::ResourceNotAvailable));
 }
+
+fn told(ids: &IdAllocator, asked: &[u32]) -> Vec<bool> {
+    asked.iter().map(|id| ids.is_allocated(*id)).collect()
+}
+
+#[test]
+fn granted_is_told_and_nothing_else() {
+    let mut irqs = ids(5, 23);
+    assert_eq!(told(&irqs, &[4, 24, 10]), [false, false, false]);
+    assert_eq!(irqs.allocate_id(), Ok(5));
+    assert_eq!(told(&irqs, &[5, 6]), [true, false]);
+    irqs.free_id(5).unwrap();
+    assert!(!irqs.is_allocated(5));
+    assert_eq!(irqs.allocate_id(), Ok(5));
+    assert!(irqs.is_allocated(5));
+    // and no question changed anything
+    let before = irqs.clone();
+    assert_eq!(told(&irqs, &[0, 5, 23, u32::MAX]), [false, true, false, false]);
+    assert_eq!(irqs, before);
+}
+
+#[test]
+fn the_highest_numbers_are_told() {
+    let (first, last) = (u32::MAX - 1, u32::MAX);
+    let mut high = ids(first, last);
+    assert_eq!(told(&high, &[first, last]), [false, false]);
+    assert_eq!(high.allocate_id(), Ok(first));
+    assert_eq!(told(&high, &[first, last]), [true, false]);
+    assert_eq!(high.allocate_id(), Ok(last));
+    assert_eq!(told(&high, &[first, last]), [true, true]);
+    high.free_id(last).unwrap();
+    assert_eq!(told(&high, &[first, last, 0]), [true, false, false]);
+}
+
+#[test]
+fn what_was_given_back_is_told() {
+    let mut irqs = ids(5, 23);
+    assert_eq!((irqs.allocate_id(), irqs.allocate_id()), (Ok(5), Ok(6)));
+    assert_eq!(told(&irqs, &[5, 6, 7]), [true, true, false]);
+    irqs.free_id(5).unwrap();
+    assert_eq!(told(&irqs, &[5, 6, 7]), [false, true, false]);
+}
+
+#[test]
+fn what_is_left_is_counted() {
+    let mut irqs = ids(5, 23);
+    assert_eq!(irqs.free_count(), 19);
+    for left in (0..19).rev() {
+        irqs.allocate_id().unwrap();
+        assert_eq!(irqs.free_count(), left);
+    }
+    irqs.free_id(7).unwrap();
+    assert_eq!(irqs.free_id(7), Err(Error::AlreadyReleased(7)));
+    assert_eq!(irqs.free_count(), 1);
+    for last in [0, 62, 63, 64, 127, 128, 4095, 4096, 99_999] {
+        let mut many = ids(0, last);
+        assert_eq!(many.free_count(), u64::from(last) + 1);
+        many.allocate_id().unwrap();
+        assert_eq!(many.free_count(), u64::from(last));
+    }
+}

@@ -27,6 +27,7 @@ const _: fn(&AddressAllocator) -> u64 = AddressAllocator::end;
 const _: fn(u32, u32) -> Result<IdAllocator> = IdAllocator::new;
 const _: fn(&mut IdAllocator) -> Result<u32> = IdAllocator::allocate_id;
 const _: fn(&mut IdAllocator, u32) -> Result<u32> = IdAllocator::free_id;
+const _: fn(&IdAllocator, u32) -> bool = IdAllocator::is_allocated;
 
 fn range<T: Copy + Ord + Hash + Debug>() {}
 fn request<T: Copy + Eq + Debug>() {}
