@@ -1,72 +1,18 @@
--- The lines of the language: what each kind takes behind its first word.
+-- The operations of the language, behind the word that names each, and what a line says.
 use mathlib.Core.Bool.{Bool, true, false, cond}
 use mathlib.Core.List.{List}
 use Prim.Native.Nat.{ℕ}
 use lib.Dec.{ltb}
 use lib.ListN.{length}
 use Rattle.text.specs.Words.{startOf, endOf, noWord, wordIs, dotted}
-use Rattle.ranges.specs.declared.AllocPolicy.{AllocPolicy}
 use Rattle.vocabulary.specs.Spelling.{wordText}
 use Rattle.vocabulary.specs.declared.Word.{Word}
-use Rattle.script.specs.Fields.{nameAt, numberAt, idAt, windowAt, policyAt}
-use Rattle.script.specs.Claims.{claimAt}
-use Rattle.script.specs.declared.Name.{Name}
-use Rattle.script.specs.declared.Limit.{Limit}
-use Rattle.script.specs.declared.Claim.{Claim}
-use Rattle.script.specs.declared.Flaw.{Flaw}
-use Rattle.script.specs.declared.Line.{Line}
-use Rattle.script.specs.declared.fields.NameTaken.{NameTaken}
-use Rattle.script.specs.declared.fields.NumberTaken.{NumberTaken}
-use Rattle.script.specs.declared.fields.IdTaken.{IdTaken}
-use Rattle.script.specs.declared.fields.WindowTaken.{WindowTaken}
-use Rattle.script.specs.declared.fields.PolicyTaken.{PolicyTaken}
-use Rattle.script.specs.declared.claims.ClaimTaken.{ClaimTaken}
-
--- what follows a field, which is given the field and the place behind it; or what is wrong with the field
-abbrev pub onName : NameTaken → (Name → ℕ → Line) → Line
-onName (NameTaken.Is n i) f = f n i
-onName (NameTaken.Wrong w i) f = Line.Wrong w i
-
-abbrev pub onNumber : NumberTaken → (ℕ → ℕ → Line) → Line
-onNumber (NumberTaken.Is n i) f = f n i
-onNumber (NumberTaken.Wrong w i) f = Line.Wrong w i
-
-abbrev pub onId : IdTaken → (ℕ → ℕ → Line) → Line
-onId (IdTaken.Is n i) f = f n i
-onId (IdTaken.Wrong w i) f = Line.Wrong w i
-
-abbrev pub onWindow : WindowTaken → (ℕ → ℕ → ℕ → Line) → Line
-onWindow (WindowTaken.Is a b i) f = f a b i
-onWindow (WindowTaken.Wrong w i) f = Line.Wrong w i
-
-abbrev pub onPolicy : PolicyTaken → (AllocPolicy → ℕ → Line) → Line
-onPolicy (PolicyTaken.Is p i) f = f p i
-onPolicy (PolicyTaken.Wrong w i) f = Line.Wrong w i
-
-abbrev pub onClaim : ClaimTaken → (Claim → Line) → Line
-onClaim (ClaimTaken.Is c) f = f c
-onClaim (ClaimTaken.Wrong w i) f = Line.Wrong w i
-
--- the operation, where nothing stands behind it
-unfoldable pub endedAt : List ℕ → ℕ → Line → Line
-endedAt s at l = cond (noWord s at) l (Line.Wrong Flaw.LeftOver (startOf s at))
-
--- `limit` N or nothing, behind a pool's name, base and size
-unfoldable pub limitAt : List ℕ → Name → ℕ → ℕ → ℕ → Line
-limitAt s name base size at =
-    cond (wordIs s at (wordText Word.Limit))
-    (onNumber (numberAt s (endOf s at)) (λ n i. endedAt s i (Line.Pool name base size (Limit.Said n))))
-    (endedAt s at (Line.Pool name base size Limit.Unsaid))
-
--- `pool` NAME BASE SIZE
-unfoldable pub poolAt : List ℕ → ℕ → Line
-poolAt s at =
-    onName (nameAt s at) (λ name i. onNumber (numberAt s i) (λ base j. onNumber (numberAt s j) (λ size k. limitAt s name base size k)))
-
--- `ids` NAME LOW HIGH
-unfoldable pub idsAt : List ℕ → ℕ → Line
-idsAt s at =
-    onName (nameAt s at) (λ name i. onId (idAt s i) (λ low j. onId (idAt s j) (λ high k. endedAt s k (Line.Ids name low high))))
+use Rattle.fields.specs.Fields.{nameAt, numberAt, idAt, windowAt, policyAt}
+use Rattle.fields.specs.declared.Name.{Name}
+use Rattle.fields.specs.declared.Flaw.{Flaw}
+use Rattle.claims.specs.Claims.{claimAt}
+use Rattle.lines.specs.Lines.{onName, onNumber, onId, onWindow, onPolicy, onClaim, otherOf}
+use Rattle.lines.specs.declared.Line.{Line}
 
 -- `allocate` NAME, of an id
 unfoldable pub grantAt : List ℕ → Name → ℕ → Line
@@ -101,9 +47,13 @@ freeIdAt s name at = onId (idAt s at) (λ n i. onClaim (claimAt s i) (λ c. Line
 unfoldable pub freeAt : List ℕ → ℕ → Line
 freeAt s at = onName (nameAt s at) (λ name i. cond (dotted s i) (freeWindowAt s name i) (freeIdAt s name i))
 
--- `show` NAME
-unfoldable pub showAt : List ℕ → ℕ → Line
-showAt s at = onName (nameAt s at) (λ name i. endedAt s i (Line.Show name))
+-- an id, behind `in-use` NAME
+unfoldable pub askedAt : List ℕ → Name → ℕ → Line
+askedAt s name at = onId (idAt s at) (λ n i. onClaim (claimAt s i) (λ c. Line.InUse name n c))
+
+-- `in-use` NAME ID
+unfoldable pub inUseAt : List ℕ → ℕ → Line
+inUseAt s at = onName (nameAt s at) (λ name i. askedAt s name i)
 
 -- what a line says: its first word decides
 unfoldable pub lineOf : List ℕ → Line
@@ -112,7 +62,5 @@ lineOf s =
     (cond (noWord s 0) Line.Blank
     (cond (wordIs s 0 (wordText Word.Allocate)) (allocateAt s (endOf s 0))
     (cond (wordIs s 0 (wordText Word.Free)) (freeAt s (endOf s 0))
-    (cond (wordIs s 0 (wordText Word.Pool)) (poolAt s (endOf s 0))
-    (cond (wordIs s 0 (wordText Word.Ids)) (idsAt s (endOf s 0))
-    (cond (wordIs s 0 (wordText Word.Show)) (showAt s (endOf s 0))
-    (Line.Wrong Flaw.UnknownWord (startOf s 0))))))))
+    (cond (wordIs s 0 (wordText Word.InUse)) (inUseAt s (endOf s 0))
+    (otherOf s)))))

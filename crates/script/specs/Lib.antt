@@ -1,5 +1,2 @@
-pub mod Fields
-pub mod Claims
 pub mod Grammar
-pub mod Answers
 pub mod Samples

@@ -4,9 +4,9 @@ use Prim.Native.Nat.{ℕ}
 use Rattle.ranges.specs.declared.Error.{Error}
 use Rattle.ranges.specs.declared.Error.the-variants.{Overflow, OutOfRange, AlreadyReleased, NeverAllocated, ResourceNotAvailable, InvalidRange, InvalidAlignment, UnalignedAddress, Underflow, InvalidSize, NoRoom, InvalidPolicy, NoState}
 use Rattle.vocabulary.specs.declared.Word.{Word}
-use Rattle.vocabulary.specs.declared.Word.the-variants.{Pool, Ids, Allocate, Free, Show, Limit, Align, First, Last, Exact, Arrow, Freed, Refused}
+use Rattle.vocabulary.specs.declared.Word.the-variants.{Pool, Ids, Allocate, Free, Show, Limit, Align, First, Last, Exact, Arrow, Freed, Refused, InUse, Yes, No, Together}
 
--- `pool`, `ids`, `allocate`, `free`, `show`, `limit`, `align`, `first`, `last`, `exact`, `=>`, `freed`, `refused`
+-- `pool`, `ids`, `allocate`, `free`, `show`, `limit`, `align`, `first`, `last`, `exact`, `=>`, `freed`, `refused`, `in-use`, `yes`, `no`, `together`
 abbrev pub wordText : Word → List ℕ
 wordText Pool = 112 ∷ 111 ∷ 111 ∷ 108 ∷ []
 wordText Ids = 105 ∷ 100 ∷ 115 ∷ []
@@ -21,6 +21,10 @@ wordText Exact = 101 ∷ 120 ∷ 97 ∷ 99 ∷ 116 ∷ []
 wordText Arrow = 61 ∷ 62 ∷ []
 wordText Freed = 102 ∷ 114 ∷ 101 ∷ 101 ∷ 100 ∷ []
 wordText Refused = 114 ∷ 101 ∷ 102 ∷ 117 ∷ 115 ∷ 101 ∷ 100 ∷ []
+wordText InUse = 105 ∷ 110 ∷ 45 ∷ 117 ∷ 115 ∷ 101 ∷ []
+wordText Yes = 121 ∷ 101 ∷ 115 ∷ []
+wordText No = 110 ∷ 111 ∷ []
+wordText Together = 116 ∷ 111 ∷ 103 ∷ 101 ∷ 116 ∷ 104 ∷ 101 ∷ 114 ∷ []
 
 -- `overflow`, `out-of-range`, `already-released`, `never-allocated`, `not-available`, `invalid-range`, `invalid-alignment`, `unaligned`, `underflow`, `invalid-size`, `no-room`, `invalid-policy`, `no-state`
 abbrev pub reasonText : Error → List ℕ

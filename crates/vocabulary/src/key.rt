@@ -2,7 +2,7 @@
 ghost use mathlib.Core.Path.{_≡_};
 ghost use Rattle.text.specs.Words.{wordIs};
 ghost use Rattle.vocabulary.specs.Spelling.{wordText};
-ghost use Rattle.vocabulary.specs.declared.Word.the-variants.{Pool, Ids, Allocate, Free, Show, Limit, Align, First, Last, Exact, Arrow, Freed, Refused};
+ghost use Rattle.vocabulary.specs.declared.Word.the-variants.{Pool, Ids, Allocate, Free, Show, Limit, Align, First, Last, Exact, Arrow, Freed, Refused, InUse, Yes, No, Together};
 
 pub fn pool(s: &[u8], at: usize) -> bool
     ensures { λ r. ⌜ r ≡ wordIs (now (s .entry)) at (wordText Pool) ⌝ }
@@ -80,4 +80,28 @@ pub fn refused(s: &[u8], at: usize) -> bool
     ensures { λ r. ⌜ r ≡ wordIs (now (s .entry)) at (wordText Refused) ⌝ }
 {
     text::word_is(s, at, b"refused")
+}
+
+pub fn in_use(s: &[u8], at: usize) -> bool
+    ensures { λ r. ⌜ r ≡ wordIs (now (s .entry)) at (wordText InUse) ⌝ }
+{
+    text::word_is(s, at, b"in-use")
+}
+
+pub fn yes(s: &[u8], at: usize) -> bool
+    ensures { λ r. ⌜ r ≡ wordIs (now (s .entry)) at (wordText Yes) ⌝ }
+{
+    text::word_is(s, at, b"yes")
+}
+
+pub fn no(s: &[u8], at: usize) -> bool
+    ensures { λ r. ⌜ r ≡ wordIs (now (s .entry)) at (wordText No) ⌝ }
+{
+    text::word_is(s, at, b"no")
+}
+
+pub fn together(s: &[u8], at: usize) -> bool
+    ensures { λ r. ⌜ r ≡ wordIs (now (s .entry)) at (wordText Together) ⌝ }
+{
+    text::word_is(s, at, b"together")
 }

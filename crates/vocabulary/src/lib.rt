@@ -23,6 +23,10 @@ pub enum Word {
     Arrow,
     Freed,
     Refused,
+    InUse,
+    Yes,
+    No,
+    Together,
 }
 
 // Whether the next word from `at` on is this one.
@@ -43,6 +47,10 @@ pub fn next_is(s: &[u8], at: usize, word: Word) -> bool
         Word::Arrow => key::arrow(s, at),
         Word::Freed => key::freed(s, at),
         Word::Refused => key::refused(s, at),
+        Word::InUse => key::in_use(s, at),
+        Word::Yes => key::yes(s, at),
+        Word::No => key::no(s, at),
+        Word::Together => key::together(s, at),
     }
 }
 

@@ -85,6 +85,30 @@ enum-told-13 c = search needs
 refused-requires : tie.Need-refused-requires
 refused-requires c κs = search needs
 
+enum-told-14 : tie.Need-enum-told-14
+enum-told-14 c = search needs
+
+in-use-requires : tie.Need-in-use-requires
+in-use-requires c κs = search needs
+
+enum-told-15 : tie.Need-enum-told-15
+enum-told-15 c = search needs
+
+yes-requires : tie.Need-yes-requires
+yes-requires c κs = search needs
+
+enum-told-16 : tie.Need-enum-told-16
+enum-told-16 c = search needs
+
+no-requires : tie.Need-no-requires
+no-requires c κs = search needs
+
+enum-told-17 : tie.Need-enum-told-17
+enum-told-17 c = search needs
+
+together-requires : tie.Need-together-requires
+together-requires c κs = search needs
+
 returns : tie.Need-returns
 returns c = let a = c .before .before .before .before .args in c .pool .ensures ∙ ap (λ (w : Word). wordIs (a .s .now) (a .at) (wordText w)) (sym (c .before .enum-told .given .1))
 
@@ -124,6 +148,18 @@ returns-12 c = let a = c .before .before .before .before .args in c .freed .ensu
 returns-13 : tie.Need-returns-13
 returns-13 c = let a = c .before .before .before .before .args in c .refused .ensures ∙ ap (λ (w : Word). wordIs (a .s .now) (a .at) (wordText w)) (sym (c .before .enum-told13 .given .1))
 
+returns-14 : tie.Need-returns-14
+returns-14 c = let a = c .before .before .before .before .args in c .in-use .ensures ∙ ap (λ (w : Word). wordIs (a .s .now) (a .at) (wordText w)) (sym (c .before .enum-told14 .given .1))
+
+returns-15 : tie.Need-returns-15
+returns-15 c = let a = c .before .before .before .before .args in c .yes .ensures ∙ ap (λ (w : Word). wordIs (a .s .now) (a .at) (wordText w)) (sym (c .before .enum-told15 .given .1))
+
+returns-16 : tie.Need-returns-16
+returns-16 c = let a = c .before .before .before .before .args in c .no .ensures ∙ ap (λ (w : Word). wordIs (a .s .now) (a .at) (wordText w)) (sym (c .before .enum-told16 .given .1))
+
+returns-17 : tie.Need-returns-17
+returns-17 c = let a = c .before .before .before .before .args in c .together .ensures ∙ ap (λ (w : Word). wordIs (a .s .now) (a .at) (wordText w)) (sym (c .before .enum-told17 .given .1))
+
 pub next-is-spec : {M : Type 1} → statement M
 next-is-spec =
     tie.close
@@ -154,6 +190,14 @@ next-is-spec =
     freed-requires
     enum-told-13
     refused-requires
+    enum-told-14
+    in-use-requires
+    enum-told-15
+    yes-requires
+    enum-told-16
+    no-requires
+    enum-told-17
+    together-requires
     returns
     returns-2
     returns-3
@@ -166,4 +210,8 @@ next-is-spec =
     returns-10
     returns-11
     returns-12
-    returns-13)
+    returns-13
+    returns-14
+    returns-15
+    returns-16
+    returns-17)
