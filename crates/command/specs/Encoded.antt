@@ -6,11 +6,11 @@ use Rattle.text.specs.Stored.{Puts}
 use Rattle.text.specs.declared.Placed.{Placed}
 use Rattle.ranges.specs.Reasons.{numberOf}
 use Rattle.ranges.specs.declared.AllocPolicy.{AllocPolicy}
-use Rattle.script.specs.declared.Claim.{Claim}
-use Rattle.script.specs.declared.Flaw.{Flaw}
-use Rattle.script.specs.declared.Limit.{Limit}
-use Rattle.script.specs.declared.Line.{Line}
-use Rattle.script.specs.declared.Name.{Name}
+use Rattle.claims.specs.declared.Claim.{Claim}
+use Rattle.fields.specs.declared.Flaw.{Flaw}
+use Rattle.lines.specs.declared.Limit.{Limit}
+use Rattle.lines.specs.declared.Line.{Line}
+use Rattle.fields.specs.declared.Name.{Name}
 use Rattle.command.specs.declared.Three.{Three}
 
 -- three numbers
@@ -28,13 +28,15 @@ policyOf AllocPolicy.FirstMatch = three 0 0 0
 policyOf AllocPolicy.LastMatch = three 1 0 0
 policyOf (AllocPolicy.ExactMatch x) = three 2 x 0
 
--- a claim: 0 none, 1 a window and its ends, 2 an id, 3 freed, 4 refused and the reason's number
+-- a claim: 0 none, 1 a window and its ends, 2 an id, 3 freed, 4 refused and the reason's number, 5 yes, 6 no
 abbrev pub claimOf : Claim → Three
 claimOf Claim.Unsaid = three 0 0 0
 claimOf (Claim.Window x y) = three 1 x y
 claimOf (Claim.Id n) = three 2 n 0
 claimOf Claim.Freed = three 3 0 0
 claimOf (Claim.Refused e) = three 4 (numberOf e) 0
+claimOf Claim.Yes = three 5 0 0
+claimOf Claim.No = three 6 0 0
 
 -- the number of a flaw
 abbrev pub flawOf : Flaw → ℕ
@@ -50,6 +52,7 @@ flawOf Flaw.PolicyExpected = 9
 flawOf Flaw.ClaimExpected = 10
 flawOf Flaw.ReasonExpected = 11
 flawOf Flaw.LeftOver = 12
+flawOf Flaw.CountExpected = 13
 
 -- the number of a line's kind
 abbrev pub kindOf : Line → ℕ
@@ -62,6 +65,8 @@ kindOf (Line.Free n s e c) = 5
 kindOf (Line.FreeId n i c) = 6
 kindOf (Line.Show n) = 7
 kindOf (Line.Wrong w i) = 8
+kindOf (Line.InUse n i c) = 9
+kindOf (Line.Together k) = 10
 
 -- nine words: the name's place, four numbers and the claim
 abbrev pub nine : Name → ℕ → ℕ → Three → Three → List ℕ
@@ -78,6 +83,8 @@ wordsOf (Line.Free n s e c) = nine n s e (three 0 0 0) (claimOf c)
 wordsOf (Line.FreeId n i c) = nine n i 0 (three 0 0 0) (claimOf c)
 wordsOf (Line.Show n) = nine n 0 0 (three 0 0 0) (three 0 0 0)
 wordsOf (Line.Wrong w i) = nine (record { start = 0; len = 0 }) (flawOf w) i (three 0 0 0) (three 0 0 0)
+wordsOf (Line.InUse n i c) = nine n i 0 (three 0 0 0) (claimOf c)
+wordsOf (Line.Together k) = nine (record { start = 0; len = 0 }) k 0 (three 0 0 0) (three 0 0 0)
 
 -- the place behind a text that was put at the front, 0 for none
 abbrev pub placeOf : Placed → ℕ

@@ -1,17 +1,23 @@
-// What the command's C links against: a line of a script as nine words, a window as text, and the bar of a picture.
+// What the command's C links against: a line of a script as nine words, a line carried out on a lent block with what became of it in five
+// words, a window as text, and the bar of a picture.
 // Every function is total, as in the crates that it calls.
 ghost use mathlib.Core.Path.{_≡_};
 ghost use Rattle.text.specs.Stored.{Puts};
 ghost use Rattle.script.specs.Grammar.{lineOf};
-ghost use Rattle.script.specs.Answers.{windowText};
+ghost use Rattle.fields.specs.Answers.{windowText};
 ghost use Rattle.picture.specs.Bar.{Cleared, Painted};
 ghost use Rattle.command.specs.Encoded.{kindOf, wordsOf, placeOf, Placing};
-ghost use Rattle.command.specs.Encoded.{claimOf, limitOf, policyOf, flawOf};
+ghost use Rattle.command.specs.Lines.{PoolLine, IdLine, UseLine};
+ghost use Rattle.command.specs.Encoded.{claimOf, limitOf, policyOf};
+ghost use Rattle.command.specs.Files.{kindWith, wordsWith};
+ghost use Rattle.keeping.specs.Keeping.{keptOf};
+
+mod files;
+
+use claims::Claim;
+use lines::Limit;
+use lines::Line;
 use ranges::AllocPolicy;
-use script::Claim;
-use script::Flaw;
-use script::Limit;
-use script::Line;
 use text::Placed;
 
 // A number that names a case, and two numbers that it holds.
@@ -21,14 +27,17 @@ pub struct Three {
     pub b: u64,
 }
 
-// Reads a line: answers its kind, and `words` becomes what it says.
+// Reads a line: answers its kind, and `words` becomes what it says. A line of files is one first; any other is what the script's grammar says.
 #[no_mangle]
 pub extern "C" fn rk_line(s: &[u8], words: &mut [u64; 9]) -> u32
-    ensures { λ r. ⌜ (r ≡ kindOf (lineOf (now (s .entry)))) × (now (words .exit) ≡ wordsOf (lineOf (now (s .entry)))) ⌝ }
+    ensures { λ r. ⌜ (r ≡ kindWith (keptOf (now (s .entry))) (kindOf (lineOf (now (s .entry))))) × (now (words .exit) ≡ wordsWith (keptOf (now (s .entry))) (wordsOf (lineOf (now (s .entry))))) ⌝ }
 {
+    let kept = keeping::read(s);
     let line = script::parse(s);
-    *words = words_of(line);
-    kind_of(line)
+    let kind = kind_of(line);
+    let said = words_of(line);
+    *words = files::words(kept, said);
+    files::kind(kept, kind)
 }
 
 fn kind_of(line: Line) -> u32
@@ -68,6 +77,12 @@ fn kind_of(line: Line) -> u32
         } => 6,
         Line::Show { name: _ } => 7,
         Line::Wrong { why: _, at: _ } => 8,
+        Line::InUse {
+            name: _,
+            id: _,
+            claim: _,
+        } => 9,
+        Line::Together { count: _ } => 10,
     }
 }
 
@@ -175,7 +190,22 @@ fn words_of(line: Line) -> [u64; 9]
             ]
         }
         Line::Show { name } => [name.start as u64, name.len as u64, 0, 0, 0, 0, 0, 0, 0],
-        Line::Wrong { why, at } => [0, 0, flaw_number(why), at as u64, 0, 0, 0, 0, 0],
+        Line::Wrong { why, at } => [0, 0, files::flaw_number(why), at as u64, 0, 0, 0, 0, 0],
+        Line::InUse { name, id, claim } => {
+            let c = claim_words(claim);
+            [
+                name.start as u64,
+                name.len as u64,
+                id as u64,
+                0,
+                0,
+                0,
+                c.kind,
+                c.a,
+                c.b,
+            ]
+        }
+        Line::Together { count } => [0, 0, count, 0, 0, 0, 0, 0, 0],
     }
 }
 
@@ -247,26 +277,47 @@ fn claim_words(claim: Claim) -> Three
             a: e.number() as u64,
             b: 0,
         },
+        Claim::Yes => Three {
+            kind: 5,
+            a: 0,
+            b: 0,
+        },
+        Claim::No => Three {
+            kind: 6,
+            a: 0,
+            b: 0,
+        },
     }
 }
 
-fn flaw_number(why: Flaw) -> u64
-    ensures { λ r. ⌜ r ≡ flawOf why ⌝ }
+// Carries a line out on the pool in `mem`: with no claim it is answered, with a claim the claim is judged. `told` becomes what became of it.
+#[no_mangle]
+pub extern "C" fn rk_pool_line(s: &[u8], mem: &mut [u64], told: &mut [u64; 5])
+    ensures { λ _. ⌜ PoolLine (now (s .entry)) (now (mem .entry)) (now (mem .exit)) (now (told .exit)) ⌝ }
 {
-    match why {
-        Flaw::LineTooLong => 1,
-        Flaw::UnknownWord => 2,
-        Flaw::NameExpected => 3,
-        Flaw::NameTooLong => 4,
-        Flaw::NumberExpected => 5,
-        Flaw::NumberTooLarge => 6,
-        Flaw::WindowExpected => 7,
-        Flaw::AlignExpected => 8,
-        Flaw::PolicyExpected => 9,
-        Flaw::ClaimExpected => 10,
-        Flaw::ReasonExpected => 11,
-        Flaw::LeftOver => 12,
-    }
+    let wanted = script::parse(s);
+    let outcome = replay::on_pool(mem, wanted);
+    *told = told::pool(outcome);
+}
+
+// The same on the interval of ids in `mem`.
+#[no_mangle]
+pub extern "C" fn rk_id_line(s: &[u8], mem: &mut [u64], told: &mut [u64; 5])
+    ensures { λ _. ⌜ IdLine (now (s .entry)) (now (mem .entry)) (now (mem .exit)) (now (told .exit)) ⌝ }
+{
+    let wanted = script::parse(s);
+    let outcome = replay::on_ids(mem, wanted);
+    *told = told::interval(outcome);
+}
+
+// Asks whether an id of the interval in `mem` is granted, as the line wants it.
+#[no_mangle]
+pub extern "C" fn rk_use_line(s: &[u8], mem: &[u64], told: &mut [u64; 5])
+    ensures { λ _. ⌜ UseLine (now (s .entry)) (now (mem .entry)) (now (told .exit)) ⌝ }
+{
+    let wanted = script::parse(s);
+    let outcome = asked::in_use(mem, wanted);
+    *told = told::used(outcome);
 }
 
 // Puts a window into `out` from its first byte on: the number of bytes, or 0 where it does not fit.
@@ -274,7 +325,7 @@ fn flaw_number(why: Flaw) -> u64
 pub extern "C" fn rk_window(out: &mut [u8], low: u64, high: u64) -> usize
     ensures { λ r. ⌜ Placing (windowText low high) (now (out .entry)) (now (out .exit)) r ⌝ }
 {
-    let placed = script::put_window(out, 0, low, high);
+    let placed = fields::put_window(out, 0, low, high);
     match placed {
         Placed::Next(i) => i,
         Placed::NoRoom => 0,

@@ -1,8 +1,7 @@
--- `command::words_of` meets its contract: by the kind. Assumes nothing.
+-- `command::words_of` meets its contract: by the case. Assumes nothing.
 use borrow.Author.Needs.{needs}
-use mathlib.Core.Path.{sym, _∙_}
+use mathlib.Core.Path.{sym, ap, _∙_}
 use Rattle.command.specs.Encoded.{wordsOf}
-use mathlib.Core.Path.{ap, refl}
 use Rattle.command.proofs.words_of.Statement.{statement}
 use Rattle.command.proofs.words_of.Tie as tie
 
@@ -13,46 +12,46 @@ enum-known-line : tie.Need-enum-known-line
 enum-known-line c = search needs
 
 limit-words-requires : tie.Need-limit-words-requires
-limit-words-requires c κs = tt
+limit-words-requires c κs = search needs
 
 enum-known-line-2 : tie.Need-enum-known-line-2
 enum-known-line-2 c = search needs
 
-cast-t37 : tie.Need-cast-t37
-cast-t37 c = search needs
+cast-t42 : tie.Need-cast-t42
+cast-t42 c = search needs
 
-cast-t38 : tie.Need-cast-t38
-cast-t38 c = search needs
+cast-t43 : tie.Need-cast-t43
+cast-t43 c = search needs
 
 enum-known-line-3 : tie.Need-enum-known-line-3
 enum-known-line-3 c = search needs
 
 policy-words-requires : tie.Need-policy-words-requires
-policy-words-requires c κs = tt
+policy-words-requires c κs = search needs
 
 claim-words-requires : tie.Need-claim-words-requires
-claim-words-requires c κs = tt
+claim-words-requires c κs = search needs
 
 enum-known-line-4 : tie.Need-enum-known-line-4
 enum-known-line-4 c = search needs
 
 claim-words-requires-2 : tie.Need-claim-words-requires-2
-claim-words-requires-2 c κs = tt
+claim-words-requires-2 c κs = search needs
 
 enum-known-line-5 : tie.Need-enum-known-line-5
 enum-known-line-5 c = search needs
 
 claim-words-requires-3 : tie.Need-claim-words-requires-3
-claim-words-requires-3 c κs = tt
+claim-words-requires-3 c κs = search needs
 
 enum-known-line-6 : tie.Need-enum-known-line-6
 enum-known-line-6 c = search needs
 
 claim-words-requires-4 : tie.Need-claim-words-requires-4
-claim-words-requires-4 c κs = tt
+claim-words-requires-4 c κs = search needs
 
-cast-t47 : tie.Need-cast-t47
-cast-t47 c = search needs
+cast-t52 : tie.Need-cast-t52
+cast-t52 c = search needs
 
 enum-known-line-7 : tie.Need-enum-known-line-7
 enum-known-line-7 c = search needs
@@ -61,7 +60,19 @@ enum-known-line-8 : tie.Need-enum-known-line-8
 enum-known-line-8 c = search needs
 
 flaw-number-requires : tie.Need-flaw-number-requires
-flaw-number-requires c κs = tt
+flaw-number-requires c κs = search needs
+
+enum-known-line-9 : tie.Need-enum-known-line-9
+enum-known-line-9 c = search needs
+
+claim-words-requires-5 : tie.Need-claim-words-requires-5
+claim-words-requires-5 c κs = search needs
+
+cast-t59 : tie.Need-cast-t59
+cast-t59 c = search needs
+
+enum-known-line-10 : tie.Need-enum-known-line-10
+enum-known-line-10 c = search needs
 
 returns : tie.Need-returns
 returns c = sym (ap wordsOf (c .enum-told .given .1))
@@ -90,5 +101,47 @@ returns-8 c = rw (c .before .line7 .given .1)
 returns-9 : tie.Need-returns-9
 returns-9 c = rw (c .before .before .line8 .given .1, sym (c .flaw-number .ensures))
 
+returns-10 : tie.Need-returns-10
+returns-10 c = rw (c .before .before .line9 .given .1, sym (c .claim-words5 .ensures))
+
+returns-11 : tie.Need-returns-11
+returns-11 c = rw (c .before .line10 .given .1)
+
 pub words-of-spec : {M : Type 1} → statement M
-words-of-spec = tie.close (tie.spec enum-told enum-known-line limit-words-requires enum-known-line-2 cast-t37 cast-t38 enum-known-line-3 policy-words-requires claim-words-requires enum-known-line-4 claim-words-requires-2 enum-known-line-5 claim-words-requires-3 enum-known-line-6 claim-words-requires-4 cast-t47 enum-known-line-7 enum-known-line-8 flaw-number-requires returns returns-2 returns-3 returns-4 returns-5 returns-6 returns-7 returns-8 returns-9)
+words-of-spec =
+    tie.close
+    (tie.spec
+    enum-told
+    enum-known-line
+    limit-words-requires
+    enum-known-line-2
+    cast-t42
+    cast-t43
+    enum-known-line-3
+    policy-words-requires
+    claim-words-requires
+    enum-known-line-4
+    claim-words-requires-2
+    enum-known-line-5
+    claim-words-requires-3
+    enum-known-line-6
+    claim-words-requires-4
+    cast-t52
+    enum-known-line-7
+    enum-known-line-8
+    flaw-number-requires
+    enum-known-line-9
+    claim-words-requires-5
+    cast-t59
+    enum-known-line-10
+    returns
+    returns-2
+    returns-3
+    returns-4
+    returns-5
+    returns-6
+    returns-7
+    returns-8
+    returns-9
+    returns-10
+    returns-11)

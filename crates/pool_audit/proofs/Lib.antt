@@ -1,0 +1,4 @@
+-- Laws of an audit: going back to a pool, and on from a claim.
+pub mod Back
+pub mod Claimed
+pub mod Sames
