@@ -1,9 +1,12 @@
 /* rangekeeper: replays a script of operations on named pools and id intervals, and checks what a monitor claims to have answered.
  *
- * This file reads, prints and puts operations in order. What a line means, what each operation answers, how a window is written and what
- * the bar shows are proved, in the crates `script`, `addresses`, `ids` and `picture`; nothing here computes an answer. */
+ * This file reads, prints and remembers line numbers. What a line means, what each operation answers, whether a claim is right, which state
+ * is gone on from, how a window is written and what the bar shows are proved, in the crates `script`, `replay`, `pool_audit`, `id_audit`,
+ * `addresses`, `ids`, `fields`, `keeping` and `picture`; nothing here computes an answer. */
 #include "../include/rangekeeper.h"
 #include "command.h"
+#include "files.h"
+#include "lines.h"
 #include "places.h"
 #include "show.h"
 
@@ -13,24 +16,17 @@
 #include <stdlib.h>
 #include <string.h>
 
-static uint64_t line_number, operations, claims, wrong, bad;
+uint64_t line_number, operations;
+char text[RK_LONGEST_LINE + 2];
+static uint64_t claims, wrong, bad;
 
-/* the line that is replayed, without its comment and the blanks at its ends */
-static char text[RK_LONGEST_LINE + 2];
-
-/* what is asked, as rk_line says it */
-struct asked {
-    struct place *place;
-    uint64_t a, b, policy, address, claim, claim_a, claim_b;
-};
-
-/* an operation's answer: a reason, or what was granted */
+/* an operation's answer: what is granted or freed, or a refusal with its reason as `start` */
 struct answer {
-    uint32_t reason;
-    uint64_t start, end; /* of an id: both */
+    uint64_t kind; /* an enum rk_claim_kind */
+    uint64_t start, end;
 };
 
-static const char *reason_word(uint64_t reason)
+const char *reason_word(uint64_t reason)
 {
     static const char *const words[] = {
         "done", "overflow", "out-of-range", "already-released", "never-allocated", "not-available", "invalid-range",
@@ -39,7 +35,7 @@ static const char *reason_word(uint64_t reason)
     return reason < sizeof words / sizeof *words ? words[reason] : "?";
 }
 
-static void refuse_line(size_t column, const char *what, ...)
+void refuse_line(size_t column, const char *what, ...)
 {
     va_list rest;
     va_start(rest, what);
@@ -59,7 +55,7 @@ static const char *window_text(uint64_t low, uint64_t high)
     return o;
 }
 
-static const char *value_text(const struct place *p, uint64_t start, uint64_t end)
+const char *value_text(const struct place *p, uint64_t start, uint64_t end)
 {
     static char out[4][24];
     static unsigned k;
@@ -77,58 +73,13 @@ static const char *claim_text(const struct asked *q)
     case RK_WINDOW: return window_text(q->claim_a, q->claim_b);
     case RK_ID: snprintf(out, sizeof out, "%" PRIu64, q->claim_a); return out;
     case RK_FREED: return "freed";
+    case RK_YES: return "yes";
+    case RK_NO: return "no";
     default: snprintf(out, sizeof out, "refused %s", reason_word(q->claim_a)); return out;
     }
 }
 
-/* ---- operations, with the lines that granted what is granted */
-
-static struct answer take(struct place *p, uint64_t size, uint64_t align, uint64_t policy, uint64_t address, uint64_t line)
-{
-    struct answer r = {0, 0, 0};
-    if (p->ids) {
-        uint32_t id = 0;
-        r.reason = rk_id_allocate(p->mem, p->words, &id);
-        r.start = r.end = id;
-    } else {
-        r.reason = rk_address_allocate(p->mem, p->words, size, align, (uint32_t)policy, address, &r.start);
-        r.end = r.start + (size - 1);
-    }
-    if (r.reason == RK_DONE)
-        grant_note(p, r.start, line);
-    return r;
-}
-
-static uint32_t give(struct place *p, uint64_t start, uint64_t end)
-{
-    uint32_t reason = p->ids ? rk_id_free(p->mem, p->words, (uint32_t)start) : rk_address_free(p->mem, p->words, start, end);
-    if (reason == RK_DONE)
-        grant_drop(p, start);
-    return reason;
-}
-
-/* grants just this range or id: an id by granting up to it and giving the others back */
-static uint32_t take_this(struct place *p, uint64_t start, uint64_t end, uint64_t line)
-{
-    if (!p->ids)
-        return end < start ? RK_INVALID_RANGE : take(p, end - start + 1, 1, RK_EXACT, start, line).reason;
-    if (start < p->base || p->last < start)
-        return RK_OUT_OF_RANGE;
-    if (grant_line(p, start) != 0)
-        return RK_RESOURCE_NOT_AVAILABLE;
-    enum { most = 65536 };
-    static uint64_t others[most];
-    size_t n = 0;
-    struct answer r;
-    do {
-        r = take(p, 0, 0, 0, 0, line);
-        if (r.reason == RK_DONE && r.start != start && n < most)
-            others[n++] = r.start;
-    } while (r.reason == RK_DONE && r.start != start && n < most);
-    while (n > 0)
-        give(p, others[n - 1], others[n - 1]), n--;
-    return r.reason == RK_DONE && r.start == start ? RK_DONE : RK_RESOURCE_NOT_AVAILABLE;
-}
+/* ---- what became of an operation, and the lines that granted what is granted */
 
 /* the first granted range or id that lies in start..end */
 static bool in_the_way(const struct place *p, uint64_t start, uint64_t end, struct answer *out)
@@ -148,26 +99,45 @@ static bool in_the_way(const struct place *p, uint64_t start, uint64_t end, stru
     return false;
 }
 
-/* ---- claims */
+/* remembers the line of a grant, and forgets that of what is freed: what was answered, or claimed and gone on from */
+static void remember(struct place *p, uint64_t kind, uint64_t start, bool taking)
+{
+    if (kind == RK_REFUSED)
+        return;
+    if (taking)
+        grant_note(p, start, line_number);
+    else
+        grant_drop(p, start);
+}
 
-/* says why a claimed range or id is not the answer. The answer itself is not granted here: it was given back. */
-static void say_why(const struct asked *q, const struct answer *r)
+static void say_answer(const struct place *p, bool taking, const struct answer *r)
+{
+    if (r->kind == RK_REFUSED)
+        printf("refused %s", reason_word(r->start));
+    else if (taking || p->ids)
+        printf("%s", value_text(p, r->start, r->end));
+    else
+        printf("freed");
+}
+
+/* says why a claimed range or id is not the answer; `stayed`: the block is as it was before */
+static void say_why(const struct asked *q, const struct answer *r, bool stayed)
 {
     const struct place *p = q->place;
     uint64_t a = q->claim_a, b = p->ids ? q->claim_a : q->claim_b;
     struct answer way;
     if (b < a)
         printf("that is no range");
-    else if (in_the_way(p, a, b, &way))
-        printf("%s is granted since line %" PRIu64, value_text(p, way.start, way.end), grant_line(p, way.start));
+    else if (stayed && in_the_way(p, a, b, &way))
+        printf("%s is granted %s", value_text(p, way.start, way.end), grant_since(p, way.start));
     else if (a < p->base || p->last < b) {
         if (p->ids)
             printf("%s has the ids %" PRIu64 " to %" PRIu64, p->name, p->base, p->last);
         else
             printf("%s has the addresses %s", p->name, window_text(p->base, p->last));
     }
-    else if (r->reason != RK_DONE)
-        printf("refused %s is right", reason_word(r->reason));
+    else if (r->kind == RK_REFUSED)
+        printf("refused %s is right", reason_word(r->start));
     else if (!p->ids && b - a != q->a - 1)
         printf("0x%" PRIx64 " addresses were asked for", q->a);
     else if (!p->ids && a % q->b != 0)
@@ -177,53 +147,25 @@ static void say_why(const struct asked *q, const struct answer *r)
             p->ids ? "the lowest that is free" : q->policy == RK_FIRST ? "the lowest place" : q->policy == RK_LAST ? "the highest place" : "what was asked for");
 }
 
-static void check_take(const struct asked *q, const struct answer *r)
+/* names what is wrong with a claim; `since` says when what is given back was granted */
+static void say_wrong(const struct asked *q, bool taking, const struct answer *r, bool stayed, uint64_t why, const char *since)
 {
     struct place *p = q->place;
-    bool granted = r->reason == RK_DONE, says = q->claim != RK_REFUSED;
-    uint64_t end = p->ids ? q->claim_a : q->claim_b;
-    claims++;
-    if (says ? granted && r->start == q->claim_a && r->end == end : !granted && r->reason == q->claim_a)
-        return;
-    wrong++;
-    if (granted)
-        give(p, r->start, r->end);
-    printf("line %" PRIu64 ": claimed %s, but ", line_number, claim_text(q));
-    if (says)
-        say_why(q, r);
-    else if (granted)
-        printf("%s is right", value_text(p, r->start, r->end));
-    else
-        printf("refused %s is right", reason_word(r->reason));
-    if (says) {
-        uint32_t reason = take_this(p, q->claim_a, end, line_number);
-        if (reason != RK_DONE)
-            printf("; cannot go on from the claim (%s)", reason_word(reason));
-    }
-    putchar('\n');
-}
-
-static void check_give(const struct asked *q, uint64_t start, uint64_t end, uint32_t reason, uint64_t since)
-{
-    struct place *p = q->place;
-    bool freed = reason == RK_DONE, says = q->claim != RK_REFUSED;
     struct answer way;
-    claims++;
-    if (says ? freed && (q->claim == RK_FREED || q->claim_a == start) : !freed && reason == q->claim_a)
-        return;
-    wrong++;
+    uint64_t end = p->ids ? q->a : q->b;
     printf("line %" PRIu64 ": claimed %s, but ", line_number, claim_text(q));
-    if (freed)
-        printf("it was granted since line %" PRIu64, since);
+    if (taking && q->claim != RK_REFUSED)
+        say_why(q, r, stayed);
+    else if (!taking && r->kind != RK_REFUSED && q->claim == RK_REFUSED)
+        printf("it was granted %s", since);
     else {
-        printf("refused %s is right", reason_word(reason));
-        if (start <= end && in_the_way(p, start, end, &way))
-            printf(": %s is granted since line %" PRIu64, value_text(p, way.start, way.end), grant_line(p, way.start));
+        say_answer(p, taking, r);
+        printf(" is right");
+        if (!taking && r->kind == RK_REFUSED && q->a <= end && in_the_way(p, q->a, end, &way))
+            printf(": %s is granted %s", value_text(p, way.start, way.end), grant_since(p, way.start));
     }
-    if (freed && !says)
-        take_this(p, start, end, since);
-    else if (!freed && says)
-        printf("; cannot go on from the claim (%s)", reason_word(reason));
+    if (stayed)
+        printf("; cannot go on from the claim (%s)", reason_word(why));
     putchar('\n');
 }
 
@@ -233,7 +175,7 @@ static void say_flaw(uint64_t flaw, size_t at)
 {
     switch (flaw) {
     case RK_LINE_TOO_LONG: refuse_line(at, "line too long, at most %d bytes expected", RK_LONGEST_LINE); break;
-    case RK_UNKNOWN_WORD: refuse_line(at, "unknown word, pool, ids, allocate, free or show expected"); break;
+    case RK_UNKNOWN_WORD: refuse_line(at, "unknown word, pool, ids, allocate, free, in-use, show, together, save or load expected"); break;
     case RK_NAME_EXPECTED: refuse_line(at, "a name of letters, digits, - and _ expected"); break;
     case RK_NAME_TOO_LONG: refuse_line(at, "name too long, at most %d bytes expected", LONGEST_NAME); break;
     case RK_NUMBER_EXPECTED: refuse_line(at, "a number expected, decimal, or hexadecimal after 0x"); break;
@@ -241,8 +183,12 @@ static void say_flaw(uint64_t flaw, size_t at)
     case RK_WINDOW_EXPECTED: refuse_line(at, "a window a..b expected"); break;
     case RK_ALIGN_EXPECTED: refuse_line(at, "align and an alignment expected"); break;
     case RK_POLICY_EXPECTED: refuse_line(at, "first, last, or exact and an address expected"); break;
-    case RK_CLAIM_EXPECTED: refuse_line(at, "a window, an id, freed, or refused and a reason expected after =>"); break;
+    case RK_CLAIM_EXPECTED: refuse_line(at, "a window, an id, freed, yes, no, or refused and a reason expected after =>"); break;
     case RK_REASON_EXPECTED: refuse_line(at, "a reason expected, as not-available or no-room"); break;
+    case RK_COUNT_EXPECTED: refuse_line(at, "2 or 3 expected: so many allocate lines follow"); break;
+    case RK_TO_EXPECTED: refuse_line(at, "to and a file expected"); break;
+    case RK_FROM_EXPECTED: refuse_line(at, "from and a file expected"); break;
+    case RK_FILE_EXPECTED: refuse_line(at, "a file expected"); break;
     default: refuse_line(at, "something left over, => and a claim or the line's end expected"); break;
     }
 }
@@ -275,43 +221,98 @@ static void declare(uint32_t kind, const uint64_t w[9], const char *name)
     p->last = ids ? w[3] : w[2] + (w[3] - 1);
 }
 
-static void operate(uint32_t kind, const uint64_t w[9], const char *name)
+/* a line that saves or loads */
+static void keep(uint32_t kind, const uint64_t w[9], const char *line)
 {
-    struct asked q = {place_find(name, w[1]), w[2], w[3], w[4], w[5], w[6], w[7], w[8]};
-    if (q.place == NULL) {
-        refuse_line(w[0], "%.*s is not declared", (int)w[1], name);
+    static char file[RK_LONGEST_LINE + 1];
+    struct place *p = place_find(line + w[0], w[1]);
+    size_t bytes = 0;
+    memcpy(file, line + w[2], w[3]);
+    file[w[3]] = 0;
+    if (p == NULL) {
+        refuse_line(w[0], "%.*s is not declared", (int)w[1], line + w[0]);
         return;
     }
-    bool ids = q.place->ids, taking = kind == RK_ALLOCATE || kind == RK_ALLOCATE_ID;
-    if (kind == RK_SHOW) {
-        show(q.place);
+    if (strlen(file) != w[3]) {
+        refuse_line(w[2], "a file with no zero byte in its name expected");
         return;
     }
-    if (ids != (kind == RK_ALLOCATE_ID || kind == RK_FREE_ID)) {
-        refuse_line(w[0], ids ? "%s has ids: allocate %s, or free %s and an id expected" : "%s has addresses: a size, align, and a policy, or a window expected",
-            q.place->name, q.place->name, q.place->name);
-        return;
-    }
-    if ((q.claim == RK_WINDOW && ids) || (q.claim == RK_WINDOW && !taking) || (q.claim == RK_ID && !ids) || (q.claim == RK_FREED && taking)) {
-        refuse_line(strlen(text), "another claim expected: %s, or refused and a reason", taking ? ids ? "an id" : "a window" : "freed");
+    const char *why = kind == RK_SAVE ? file_save(p, file, &bytes) : file_load(p, file, line_number, &bytes);
+    if (why != NULL) {
+        refuse_line(w[2], "%s: %s", file, why);
         return;
     }
     operations++;
-    if (taking) {
-        struct answer r = take(q.place, q.a, q.b, q.policy, q.address, line_number);
-        if (q.claim != RK_UNSAID)
-            check_take(&q, &r);
-        else if (r.reason == RK_DONE)
-            printf("%s => %s\n", text, value_text(q.place, r.start, r.end));
+    printf("%s => %zu bytes\n", text, bytes);
+}
+
+static void operate(uint32_t kind, const uint64_t w[9], const char *line, size_t bytes)
+{
+    struct asked q = {place_find(line + w[0], w[1]), w[2], w[3], w[4], w[5], w[6], w[7], w[8]};
+    struct place *p = q.place;
+    if (p == NULL) {
+        refuse_line(w[0], "%.*s is not declared", (int)w[1], line + w[0]);
+        return;
+    }
+    if (kind == RK_SHOW) {
+        show(p);
+        return;
+    }
+    if (p->ids != (kind == RK_ALLOCATE_ID || kind == RK_FREE_ID || kind == RK_IN_USE)) {
+        refuse_line(w[0], p->ids ? "%s has ids: allocate %s, or free %s and an id expected" : "%s has addresses: a size, align, and a policy, or a window expected",
+            p->name, p->name, p->name);
+        return;
+    }
+    bool taking = kind == RK_ALLOCATE || kind == RK_ALLOCATE_ID;
+    uint64_t told[5];
+    const char *since = taking ? "" : grant_since(p, q.a);
+    if (kind == RK_IN_USE)
+        rk_use_line((const uint8_t *)line, bytes, p->mem, p->words, told);
+    else
+        (p->ids ? rk_id_line : rk_pool_line)((const uint8_t *)line, bytes, p->mem, p->words, told);
+    if (told[0] == RK_UNFIT) {
+        if (kind == RK_IN_USE)
+            refuse_line(strlen(text), "another claim expected: yes or no");
         else
-            printf("%s => refused %s\n", text, reason_word(r.reason));
-    } else {
-        uint64_t end = ids ? q.a : q.b, since = grant_line(q.place, q.a);
-        uint32_t reason = give(q.place, q.a, end);
-        if (q.claim != RK_UNSAID)
-            check_give(&q, q.a, end, reason, since);
+            refuse_line(strlen(text), "another claim expected: %s, or refused and a reason", taking ? p->ids ? "an id" : "a window" : "freed");
+        return;
+    }
+    struct answer r = {told[1], told[2], told[3]};
+    operations++;
+    claims += told[0] != RK_ANSWERED;
+    if (kind == RK_IN_USE) {
+        const char *is = told[1] == RK_YES ? "yes" : "no";
+        if (told[0] == RK_ANSWERED)
+            printf("%s => %s\n", text, is);
+        else if (told[0] != RK_RIGHT) {
+            wrong++;
+            printf("line %" PRIu64 ": claimed %s, but ", line_number, claim_text(&q));
+            if (told[1] == RK_YES)
+                printf("%" PRIu64 " is granted %s\n", q.a, grant_since(p, q.a));
+            else
+                printf("no is right\n");
+        }
+        return;
+    }
+    switch (told[0]) {
+    case RK_ANSWERED:
+        printf("%s => ", text);
+        if (!taking && r.kind != RK_REFUSED)
+            printf("freed");
         else
-            printf(reason == RK_DONE ? "%s => freed\n" : "%s => refused %s\n", text, reason_word(reason));
+            say_answer(p, taking, &r);
+        putchar('\n');
+        remember(p, r.kind, r.start, taking);
+        break;
+    case RK_RIGHT:
+        remember(p, q.claim, taking || q.claim == RK_ID ? q.claim_a : q.a, taking);
+        break;
+    default:
+        wrong++;
+        say_wrong(&q, taking, &r, told[0] == RK_STAYED, told[4], since);
+        if (told[0] == RK_FOLLOWED)
+            remember(p, q.claim, taking || q.claim == RK_ID ? q.claim_a : q.a, taking);
+        break;
     }
 }
 
@@ -323,6 +324,7 @@ static void replay(const char *line, size_t bytes)
         return;
     if (kind == RK_WRONG) {
         say_flaw(w[2], (size_t)w[3]);
+        together_end("the group has a bad line");
         return;
     }
     size_t from = strspn(line, " \t\r"), to = strcspn(line, "#");
@@ -330,10 +332,16 @@ static void replay(const char *line, size_t bytes)
         to--;
     memcpy(text, line + from, to - from);
     text[to - from] = 0;
-    if (kind == RK_POOL || kind == RK_IDS)
+    if (together_open())
+        together_line(kind, w, line);
+    else if (kind == RK_TOGETHER)
+        together_begin((size_t)w[2]);
+    else if (kind == RK_POOL || kind == RK_IDS)
         declare(kind, w, line + w[0]);
+    else if (kind == RK_SAVE || kind == RK_LOAD)
+        keep(kind, w, line);
     else
-        operate(kind, w, line + w[0]);
+        operate(kind, w, line, bytes);
 }
 
 static void read_lines(FILE *in)
@@ -366,7 +374,11 @@ static const char help[] =
     "  allocate NAME [=> ID | => refused REASON]           an id\n"
     "  free NAME A..B [=> freed | => refused REASON]\n"
     "  free NAME ID [=> freed | => ID | => refused REASON]\n"
-    "  show NAME                                           a bar (. free, # granted, + both) and each range\n"
+    "  in-use NAME ID [=> yes | => no]                     whether an id is granted\n"
+    "  show NAME                                           a bar (. free, # granted, + both), each range, what is left\n"
+    "  together 2|3                                        the allocate lines that follow, of two pools and an interval: all or none\n"
+    "  save NAME to FILE                                   writes what NAME holds into FILE\n"
+    "  load NAME from FILE                                 NAME holds what FILE says, in place of what it held\n"
     "Words are separated by blanks; # starts a comment. Numbers are decimal, or hexadecimal after 0x; _ may stand after\n"
     "the first digit. Names are letters, digits, - and _, at most 31 bytes; a line has at most 1000 bytes.\n"
     "REASON: not-available, no-room, overflow, underflow, invalid-size, invalid-alignment, invalid-range, unaligned,\n"
@@ -399,6 +411,7 @@ int main(int argc, char **argv)
         return 2;
     }
     read_lines(in);
+    together_end("the file ends before the group");
     if (ferror(in)) {
         perror(file == NULL ? "standard input" : file);
         return 2;

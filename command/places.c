@@ -1,6 +1,7 @@
 /* The named pools and id intervals of a script: a short list, searched by name; the grants of each in a table by first address. */
 #include "places.h"
 
+#include <inttypes.h>
 #include <stdio.h>
 #include <stdlib.h>
 #include <string.h>
@@ -55,7 +56,7 @@ static size_t slot(const struct place *p, uint64_t key)
     return i;
 }
 
-void grant_note(struct place *p, uint64_t key, uint64_t line)
+static void grant_put(struct place *p, uint64_t key, uint64_t line, bool loaded)
 {
     if ((p->used + 1) * 4 > p->slots * 3) {
         struct grant *old = p->grants;
@@ -70,8 +71,23 @@ void grant_note(struct place *p, uint64_t key, uint64_t line)
     size_t i = slot(p, key);
     if (p->grants[i].line == 0)
         p->used++;
-    p->grants[i].key = key;
-    p->grants[i].line = line;
+    p->grants[i] = (struct grant){key, line, loaded};
+}
+
+void grant_note(struct place *p, uint64_t key, uint64_t line)
+{
+    grant_put(p, key, line, false);
+}
+
+void grant_note_loaded(struct place *p, uint64_t key, uint64_t line)
+{
+    grant_put(p, key, line, true);
+}
+
+void grant_forget(struct place *p)
+{
+    memset(p->grants, 0, p->slots * sizeof *p->grants);
+    p->used = 0;
 }
 
 void grant_drop(struct place *p, uint64_t key)
@@ -94,6 +110,16 @@ void grant_drop(struct place *p, uint64_t key)
 uint64_t grant_line(const struct place *p, uint64_t key)
 {
     return p->grants[slot(p, key)].line;
+}
+
+const char *grant_since(const struct place *p, uint64_t key)
+{
+    static char out[4][48];
+    static unsigned k;
+    const struct grant *g = &p->grants[slot(p, key)];
+    char *o = out[k++ % 4];
+    snprintf(o, sizeof out[0], "since %sline %" PRIu64, g->loaded ? "before the load on " : "", g->line);
+    return o;
 }
 
 static int by_number(const void *a, const void *b)

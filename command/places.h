@@ -13,6 +13,7 @@
 struct grant {
     uint64_t key;
     uint64_t line; /* 0: no grant */
+    bool loaded;   /* it was granted before it was loaded on that line */
 };
 
 struct place {
@@ -31,8 +32,13 @@ struct place *place_add(const char *name, size_t len);
 struct place *place_at(size_t i);
 
 void grant_note(struct place *p, uint64_t key, uint64_t line);
+void grant_note_loaded(struct place *p, uint64_t key, uint64_t line);
 void grant_drop(struct place *p, uint64_t key);
+/* all of them */
+void grant_forget(struct place *p);
 uint64_t grant_line(const struct place *p, uint64_t key);
+/* since when it is granted, in words */
+const char *grant_since(const struct place *p, uint64_t key);
 /* the keys in order, to be freed by the caller */
 uint64_t *grant_keys(const struct place *p);
 

@@ -67,9 +67,9 @@ static void label(char *out, size_t size, const struct place *p, const struct st
         snprintf(ends, sizeof ends, "%" PRIu64, s->start);
     else
         snprintf(ends, sizeof ends, "%" PRIu64 "..%" PRIu64, s->start, s->end);
-    char how[48] = "free";
+    char how[64] = "free";
     if (s->line != 0)
-        snprintf(how, sizeof how, "granted since line %" PRIu64, s->line);
+        snprintf(how, sizeof how, "granted %s", grant_since(p, s->start));
     if (p->ids)
         snprintf(out, size, "%s  %s", ends, how);
     else
@@ -94,6 +94,11 @@ void show(const struct place *p)
         label(text, sizeof text, p, &s[i]);
         printf("  %s\n", text);
     }
+    uint64_t left = 0, largest = 0;
+    if (p->ids)
+        printf("  %" PRIu64 " free\n", rk_id_free_count(p->mem, p->words));
+    else if (rk_address_left(p->mem, p->words, &left, &largest) == RK_DONE)
+        printf("  0x%" PRIx64 " free, 0x%" PRIx64 " in one range at most\n", left, largest);
     free(bar);
     free(s);
 }
