@@ -131,6 +131,13 @@ impl State {
         tiles
     }
 
+    /// How many addresses are free, and the greatest size that fits somewhere.
+    pub fn left(&self) -> (u64, u64) {
+        let free = (self.base..=self.end).filter(|a| self.is_free(*a as u128)).count() as u64;
+        let fits = |size: &u64| (self.base..=self.end).any(|a| self.fits(*size, 1, a));
+        (free, (1..=free).rev().find(fits).unwrap_or(0))
+    }
+
     /// The answer where at most `limit` ranges, free and granted together, may be kept.
     pub fn within(&self, limit: usize, op: &Op, answer: Answer) -> Answer {
         match answer {

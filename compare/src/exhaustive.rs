@@ -29,6 +29,10 @@ pub fn port<P: Port>(make: Make<P>, pool: Pool, limit: usize, ops: &[Op], two_wa
             }
             let reached = start.tiles(pool.base, pool.end()) == tiles;
             tally.check(reached, || line(&format!("{}: not reached", pool_text(pool)), &way));
+            let (left, counted) = (start.left(), state.left());
+            tally.check(left == Some(counted), || {
+                line(&pool_text(pool), &way) + &format!(": {left:?} is left, by the definition {counted:?}")
+            });
             let mut now = start.clone();
             for op in ops {
                 let right = state.within(limit, op, state.answer(op));
@@ -43,9 +47,9 @@ pub fn port<P: Port>(make: Make<P>, pool: Pool, limit: usize, ops: &[Op], two_wa
                         now.clone_from(&start);
                     }
                 } else {
-                    let after = state.next(op, right).tiles();
-                    let seen = now.tiles(pool.base, pool.end());
-                    tally.check(seen == after, || {
+                    let next = state.next(op, right);
+                    let (seen, after) = (now.tiles(pool.base, pool.end()), next.tiles());
+                    tally.check(seen == after && now.left() == Some(gaps::left(&next)), || {
                         line(&pool_text(pool), &way) + &format!("; {op}: left {seen:?}, by the definition {after:?}")
                     });
                     now.clone_from(&start);
@@ -62,6 +66,10 @@ pub fn definitions(pool: Pool) -> Tally {
     let ops = requests(pool, &[1, 2, 4, 8, 1 << 63]);
     for state in every_state(pool) {
         tally.count("states", 1);
+        let (by_address, by_gap) = (state.left(), gaps::left(&state));
+        tally.check(by_address == by_gap, || {
+            line(&pool_text(pool), &upwards(&state)) + &format!(": {by_address:?} and {by_gap:?} is left")
+        });
         for op in &ops {
             let (by_address, by_gap) = (state.answer(op), gaps::answer(&state, op));
             tally.check(by_address == by_gap, || {

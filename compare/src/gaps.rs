@@ -35,3 +35,11 @@ pub fn answer(state: &State, op: &Op) -> Answer {
     };
     place.map_or(Answer::Refused(Reason::ResourceNotAvailable), |at| Answer::Granted(at, at + (size - 1)))
 }
+
+/// How many addresses are free, and the size of the largest free range.
+pub fn left(state: &State) -> (u64, u64) {
+    let granted: u128 = state.granted.iter().map(|r| (r.1 - r.0) as u128 + 1).sum();
+    let free = (state.end - state.base) as u128 + 1 - granted;
+    let sizes = state.tiles().into_iter().filter(|t| t.free).map(|t| t.end - t.start + 1);
+    (free as u64, sizes.max().unwrap_or(0))
+}

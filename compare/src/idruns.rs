@@ -67,7 +67,12 @@ fn head(lowest: u32, highest: u32) -> String {
     format!("ids {lowest} to {highest}")
 }
 
-/// The library, and that a refusal leaves its memory as it was.
+/// The first of the ids of which a side says something else than the definition.
+fn told_wrong(ids: &[u32], state: &Ids, is_allocated: impl Fn(u32) -> bool) -> Option<u32> {
+    ids.iter().copied().find(|id| is_allocated(*id) != state.is_granted(*id))
+}
+
+/// The library: answers, that a refusal leaves its memory as it was, and which ids it says are granted after each operation.
 pub fn port<P: PortIds>(made: MakeIds<P>, lowest: u32, highest: u32) -> Tally {
     let mut tally = Tally::default();
     for (state, way) in states(lowest, highest) {
@@ -83,6 +88,16 @@ pub fn port<P: PortIds>(made: MakeIds<P>, lowest: u32, highest: u32) -> Tally {
             tally.check(got == right && kept, || {
                 line(&head(lowest, highest), &way)
                     + &format!("; {op}: {got}, by the definition {right}, memory kept: {kept}")
+            });
+            let mut after = state.clone();
+            after.apply(op, right);
+            for id in around(lowest, highest) {
+                tally.check(now.is_allocated(id) == after.is_granted(id), || {
+                    line(&head(lowest, highest), &way) + &format!("; {op}: then is {id} allocated")
+                });
+            }
+            tally.check(now.free_count() == after.free_count(), || {
+                line(&head(lowest, highest), &way) + &format!("; {op}: then {} are free", now.free_count())
             });
         }
     }
@@ -109,6 +124,19 @@ pub fn sequence(lowest: u32, highest: u32, seed: u64, steps: usize) -> Vec<IdOp>
     ops
 }
 
+/// After a step of a long sequence: the id, its neighbours and those a word away, and the ends.
+fn near(lowest: u32, highest: u32, answer: IdAnswer, op: IdOp) -> Vec<u32> {
+    let id = match (answer, op) {
+        (IdAnswer::Id(id), _) | (IdAnswer::Refused(_), IdOp::Free(id)) => id,
+        (IdAnswer::Refused(_), IdOp::Allocate) => highest,
+    };
+    let mut all = vec![0, lowest.saturating_sub(1), lowest, highest, highest.saturating_add(1), u32::MAX, id];
+    for away in [1, 63, 64, 65] {
+        all.extend([id.saturating_sub(away), id.saturating_add(away)]);
+    }
+    all
+}
+
 fn port_differs<P: PortIds>(made: MakeIds<P>, lowest: u32, highest: u32, ops: &[IdOp]) -> Result<u64, String> {
     let mut state = make(lowest, highest).expect("an interval");
     let mut port = made(lowest, highest).map_err(|r| format!("not made: {r:?}"))?;
@@ -124,8 +152,20 @@ fn port_differs<P: PortIds>(made: MakeIds<P>, lowest: u32, highest: u32, ops: &[
             IdAnswer::Id(_) => before.clone_from(&port),
         }
         state.apply(*op, right);
+        let wrong = told_wrong(&near(lowest, highest, right, *op), &state, |id| port.is_allocated(id));
+        if let Some(id) = wrong {
+            return Err(format!("{op}: then of {id} it is not told whether it is granted"));
+        }
+        if highest - lowest < 100_000 && port.free_count() != state.free_count() {
+            return Err(format!("{op}: then {} are free, by the definition {}", port.free_count(), state.free_count()));
+        }
     }
-    Ok(ops.len() as u64)
+    let all: Vec<u32> = (lowest..=highest).collect();
+    match told_wrong(&all, &state, |id| port.is_allocated(id)) {
+        _ if port.free_count() != state.free_count() => Err(format!("in the end {} are free", port.free_count())),
+        Some(id) => Err(format!("in the end of {id} it is not told whether it is granted")),
+        None => Ok(ops.len() as u64),
+    }
 }
 
 pub fn random_port<P: PortIds>(made: MakeIds<P>, seed: u64, steps: usize) -> Tally {
@@ -181,6 +221,11 @@ pub mod beside {
                 tally.check(got == right && now.shown() == shown(&after), || {
                     say(format!("{op}: {got}, {}, by the definition {right}, {}", now.shown(), shown(&after)))
                 });
+                for id in around(lowest, highest) {
+                    tally.check(now.is_allocated(id) == after.is_granted(id), || {
+                        say(format!("{op}: then is {id} allocated"))
+                    });
+                }
                 if let (IdOp::Allocate, IdAnswer::Id(id)) = (op, right) {
                     tally.check(state.lowest_unused() == Some(id), || say(format!("{op}: {id} is not the lowest unused")));
                 }
@@ -218,7 +263,12 @@ pub mod beside {
                 ops.iter().find_map(|op| {
                     let (got, right) = (rust.run(*op), state.answer(*op));
                     state.apply(*op, right);
-                    (got != right).then(|| format!("{op}: {got}, by the definition {right}"))
+                    let wrong = told_wrong(&near(lowest, highest, right, *op), &state, |id| rust.is_allocated(id));
+                    match wrong {
+                        _ if got != right => Some(format!("{op}: {got}, by the definition {right}")),
+                        Some(id) => Some(format!("{op}: then of {id} it is not told whether it is granted")),
+                        None => None,
+                    }
                 })
             };
             if differs(&ops).is_some() {

@@ -24,6 +24,12 @@ impl Ids {
         self.ever.get(&id) == Some(&true)
     }
 
+    /// How many ids of the interval are not granted now.
+    pub fn free_count(&self) -> u64 {
+        let granted = self.ever.values().filter(|now| **now).count() as u64;
+        u64::from(self.highest - self.lowest) + 1 - granted
+    }
+
     pub fn answer(&self, op: IdOp) -> IdAnswer {
         match op {
             IdOp::Allocate => {

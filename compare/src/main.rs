@@ -121,7 +121,7 @@ fn faults() -> Tally {
             total.count(&format!("operations in a smallest failing sequence of '{what}'"), steps);
         }
     }
-    for fault in 0..=2 {
+    for fault in 0..=4 {
         let make = move |lowest, highest| StandInIds::new(fault, lowest, highest);
         let mut small = Tally::default();
         idruns::small().into_iter().for_each(|(l, h)| small.add(idruns::port(&make, l, h)));
@@ -219,14 +219,19 @@ fn the_library(driver: &mut Driver) {
 
 #[cfg(port)]
 fn the_library(driver: &mut Driver) {
-    use port::{Native, NativeIds};
+    use port::{Native, NativeIds, Port};
     driver.part("the library, which pools and intervals are made", || {
         let mut tally = Tally::default();
         for (base, size) in pools_to_make() {
             for limit in [0, 1, 7, 4096, 4097] {
                 let room = |state| if (1..=4096).contains(&limit) { Ok(state) } else { Err(words::Reason::NoRoom) };
                 let right = definition::make(base, size).and_then(room).err();
-                let got = Native::new(base, size, limit).err();
+                let made = Native::new(base, size, limit);
+                let left = made.as_ref().map(Native::left);
+                tally.check(left.is_err() || left == Ok(Some((size, size))), || {
+                    format!("pool {base:#x} size {size:#x}: {left:?} is left")
+                });
+                let got = made.err();
                 tally.check(got == right, || format!("pool {base:#x} size {size:#x} limit {limit}: {got:?}, {right:?}"));
             }
         }

@@ -9,11 +9,15 @@ pub trait Port: Clone + PartialEq {
     fn run(&mut self, op: &Op) -> Answer;
     /// The ranges in order, asked for one after the other from the pool's base on.
     fn tiles(&self, base: u64, end: u64) -> Vec<Tile>;
+    /// How many addresses are free and the size of the largest free range; nothing where that is refused.
+    fn left(&self) -> Option<(u64, u64)>;
 }
 
 /// An id allocator in lent memory.
 pub trait PortIds: Clone + PartialEq {
     fn run(&mut self, op: IdOp) -> IdAnswer;
+    fn is_allocated(&self, id: u32) -> bool;
+    fn free_count(&self) -> u64;
 }
 
 /// How an address allocator is made: of a base, a size and a limit.
@@ -43,10 +47,13 @@ mod native {
         fn rk_address_free(mem: *mut u64, words: usize, start: u64, end: u64) -> u32;
         fn rk_address_at(mem: *const u64, words: usize, address: u64, start: *mut u64, end: *mut u64, tag: *mut u64) -> u32;
         fn rk_address_count(mem: *const u64, words: usize) -> u64;
+        fn rk_address_left(mem: *const u64, words: usize, free: *mut u64, largest: *mut u64) -> u32;
         fn rk_id_words(lowest: u32, highest: u32) -> usize;
         fn rk_id_new(mem: *mut u64, words: usize, lowest: u32, highest: u32) -> u32;
         fn rk_id_allocate(mem: *mut u64, words: usize, id: *mut u32) -> u32;
         fn rk_id_free(mem: *mut u64, words: usize, id: u32) -> u32;
+        fn rk_id_is_allocated(mem: *const u64, words: usize, id: u32) -> u32;
+        fn rk_id_free_count(mem: *const u64, words: usize) -> u64;
     }
 
     /// What lent memory holds before an allocator is made in it: nothing that a correct one depends on.
@@ -132,6 +139,13 @@ mod native {
                 Vec::new()
             }
         }
+
+        fn left(&self) -> Option<(u64, u64)> {
+            let (mut free, mut largest) = (JUNK, JUNK);
+            // SAFETY: the block is as long as it is said to be; the two numbers are of this frame.
+            let reason = unsafe { rk_address_left(self.block.as_ptr(), self.block.len(), &mut free, &mut largest) };
+            (reason == 0).then_some((free, largest))
+        }
     }
 
     #[derive(Clone, PartialEq)]
@@ -169,6 +183,16 @@ mod native {
                 0 => IdAnswer::Id(id),
                 r => IdAnswer::Refused(Reason::from_number(r)),
             }
+        }
+
+        fn is_allocated(&self, id: u32) -> bool {
+            // SAFETY: the block is as long as it is said to be.
+            unsafe { rk_id_is_allocated(self.block.as_ptr(), self.block.len(), id) != 0 }
+        }
+
+        fn free_count(&self) -> u64 {
+            // SAFETY: as above.
+            unsafe { rk_id_free_count(self.block.as_ptr(), self.block.len()) }
         }
     }
 }

@@ -141,6 +141,10 @@ pub fn port_differs<P: Port>(make: Make<P>, pool: Pool, limit: usize, ops: &[Op]
             state.apply(op, right);
             before.clone_from(&port);
         }
+        let (left, right) = (port.left(), gaps::left(&state));
+        if left != Some(right) {
+            return Err(format!("{op}: {left:?} is left, by the definition {right:?}"));
+        }
         if i % 64 == 0 && port.tiles(pool.base, pool.end()) != state.tiles() {
             return Err(format!("{op}: other ranges than by the definition"));
         }

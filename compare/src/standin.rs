@@ -6,7 +6,7 @@ use crate::ids::{self, Ids};
 use crate::port::{Port, PortIds};
 use crate::words::{Answer, IdAnswer, IdOp, Op, Policy, Reason, Tile, M};
 
-pub const FAULTS: [&str; 8] = [
+pub const FAULTS: [&str; 10] = [
     "none",
     "first stops at the first free range that is long enough before rounding up",
     "last rounds the start down below the free range's own start",
@@ -15,6 +15,8 @@ pub const FAULTS: [&str; 8] = [
     "what fits at the end of the pool is refused by exact",
     "a refusal changes the memory",
     "one range more than the limit is kept",
+    "the last free range is called the largest",
+    "of each free range but the first one address is not counted",
 ];
 
 #[derive(Clone, PartialEq)]
@@ -112,9 +114,17 @@ impl Port for StandIn {
     fn tiles(&self, _: u64, _: u64) -> Vec<Tile> {
         self.tiles.clone()
     }
+
+    fn left(&self) -> Option<(u64, u64)> {
+        let sizes: Vec<u64> = self.tiles.iter().filter(|t| t.free).map(|t| t.end - t.start + 1).collect();
+        let missed = if self.fault == 9 { sizes.len().saturating_sub(1) as u64 } else { 0 };
+        let largest = if self.fault == 8 { sizes.last() } else { sizes.iter().max() };
+        Some((sizes.iter().sum::<u64>() - missed, largest.copied().unwrap_or(0)))
+    }
 }
 
-/// Ids: fault 1 grants the highest freed id, fault 2 takes back the id that would be granted next.
+/// Ids: fault 1 grants the highest freed id, fault 2 takes back the id that would be granted next, fault 3 knows
+/// nothing of the highest id, fault 4 counts only the ids that were never granted.
 #[derive(Clone, PartialEq)]
 pub struct StandInIds {
     fault: usize,
@@ -140,5 +150,18 @@ impl PortIds for StandInIds {
         }
         self.ids.apply(op, answer);
         answer
+    }
+
+    fn is_allocated(&self, id: u32) -> bool {
+        self.ids.is_granted(id) && (self.fault != 3 || id != self.ids.highest)
+    }
+
+    fn free_count(&self) -> u64 {
+        let never_granted = u64::from(self.ids.highest - self.ids.lowest) + 1 - self.ids.ever.len() as u64;
+        if self.fault == 4 {
+            never_granted
+        } else {
+            self.ids.free_count()
+        }
     }
 }
