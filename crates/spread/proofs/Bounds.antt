@@ -7,7 +7,7 @@ use native.Mathlib.Omega.{arith}
 use lib.ListN.{length, getD, set, length-set}
 use lib.Seq.{getD-set-other, getD-set-same}
 use Rattle.blocks.specs.Blocks.{blocksOf, sizeAt, boundAt, startsAt, tagsAt, lastAt, pastAt, startsOf, tagsOf, Within, Sound, Settled, Bounded}
-use Rattle.spread.specs.Spread.{Same, Tightened, Trimmed, Laid, Turned, Nearly}
+use Rattle.spread.specs.Spread.{Same, Tightened, Trimmed, Laid, Turned, Nearly, Covered}
 use Rattle.spread.proofs.Agree.{same-self, same-last, same-sound, same-starts, same-tags, same-settled, same-all-starts, same-all-tags}
 
 pub trim-none : (m : List ℕ) (lo : ℕ) → Trimmed m m lo lo
@@ -93,3 +93,14 @@ nearly-laid m lo b hi u h l n p q r =
       starts = refl;
       tags = refl;
     }
+
+-- a bound of block b alone that is raised
+pub raised : (m : List ℕ) (b w x : ℕ) → Sound m → b < blocksOf m → Nearly m b b (b + 1) → Covered m b w → 0 < sizeAt b m → sizeAt b m ≤ 61 → boundAt b m ≤ x → w ≤ x → Turned m (set m (8 + b) x) (startsOf m) (tagsOf m)
+unfolding Covered
+raised m b w x u h n v p q l k =
+    let e : b + 1 - 1 ≡ b = omega arith in
+    trim-all m m (set m (8 + b) x) (startsOf m) (tagsOf m) b (b + 1)
+    (nearly-laid m b b (b + 1) u (omega arith) (omega arith) n p q (rw e p))
+    (n .low)
+    (n .high)
+    (trim-more m m (set m (8 + b) x) b b u h (trim-none m b) (record { bound = x; is = refl; within = v x l k }) (omega arith))

@@ -75,3 +75,7 @@ pub record Nearly (m : List ℕ) (lo b hi : ℕ) : Type 0 where
   pub spare : (c : ℕ) → c < blocksOf m → (c ≡ b → ⊥) → sizeAt c m ≤ 61
   pub low : (c : ℕ) → c < blocksOf m → c < lo → Within (pastAt c m) (startsAt c m) (tagsAt c m) (boundAt c m)
   pub high : (c : ℕ) → c < blocksOf m → hi ≤ c → Within (pastAt c m) (startsAt c m) (tagsAt c m) (boundAt c m)
+
+-- each number that is neither below block b's bound nor below w is a bound of block b
+unfoldable pub Covered : List ℕ → ℕ → ℕ → Type 0
+Covered m b w = (x : ℕ) → boundAt b m ≤ x → w ≤ x → Within (pastAt b m) (startsAt b m) (tagsAt b m) x

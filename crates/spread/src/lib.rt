@@ -3,7 +3,7 @@ ghost use mathlib.Core.Path.{_≡_};
 ghost use Prim.Native.Nat.{_+_, _*_, _<_, _≤_};
 ghost use lib.ListN.{length};
 ghost use Rattle.blocks.specs.Blocks.{roomOf, countOf, blocksOf, sizes, startsOf, tagsOf, Within, Sound};
-ghost use Rattle.spread.specs.Spread.{Tightened, Trimmed, Copied, Apart, Gathered, Dealt, Laid, Turned, Nearly};
+ghost use Rattle.spread.specs.Spread.{Tightened, Trimmed, Copied, Apart, Gathered, Dealt, Laid, Turned, Nearly, Covered};
 
 // How far it is from s to last, where the range is free.
 fn reach(s: u64, last: u64, t: u64) -> u64
@@ -206,4 +206,19 @@ pub fn finish(mem: &mut [u64], nb: usize, b: usize, lo: usize, hi: usize)
         return;
     }
     trim(mem, nb, lo, hi);
+}
+
+// After a change of block b alone: its bound becomes w where that is more, with no look at its ranges; or all ranges are spread anew, where
+// block b is empty or full.
+pub fn raise(mem: &mut [u64], b: usize, w: u64)
+    requires { ⌜ Sound (now mem) × (b < blocksOf (now mem)) ⌝ }
+    ensures { λ _. ⌜ (Nearly (now (mem .entry)) b b (b + 1) → Covered (now (mem .entry)) b w → Turned (now (mem .entry)) (now (mem .exit)) (startsOf (now (mem .entry))) (tagsOf (now (mem .entry)))) ⌝ }
+{
+    let n = blocks::size_of(mem, b);
+    let odd = uneven(n, n);
+    if odd != 0 {
+        spread(mem);
+        return;
+    }
+    mem[8 + b] = larger(mem[8 + b], w);
 }
