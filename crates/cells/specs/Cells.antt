@@ -11,6 +11,11 @@ pub record Stepped (x a lo hi r : ℕ) : Type 0 where
   pub up : x ≤ a → r ≡ hi
   pub down : a < x → r ≡ lo
 
+-- hi where it is below n, else lo
+pub record Capped (lo hi n r : ℕ) : Type 0 where
+  pub near : hi < n → r ≡ hi
+  pub far : n ≤ hi → r ≡ lo
+
 -- what a search by halves answers, of numbers f 0, f 1, .. f (n - 1)
 pub record Halved (f : ℕ → ℕ) (n a r : ℕ) : Type 0 where
   pub within : r < n

@@ -3,18 +3,18 @@ use Prim.Native.Nat.{_+_, _*_}
 use borrow.Author.Needs.{needs}
 use native.Mathlib.Omega.{arith}
 use lib.ListN.{getD}
-use Rattle.cells.proofs.Halves.{Left, left-all, left-step, left-one}
+use Rattle.cells.proofs.Halves.{Left, left-all, left-step, step-near, left-one}
 use Rattle.blocks.proofs.find_block.Statement.{statement}
 use Rattle.blocks.proofs.find_block.Tie as tie
 
 abbrev Inv-loop : tie.InvT-loop
-Inv-loop mem nb a base₀ len₀ base len = Left (λ p. getD mem (137 + p * 129) 0) nb a base len
+Inv-loop mem nb a base₀ len₀ base len = Left (λ p. getD mem (137 + p * 129) 0) nb nb a base len
 
 abbrev μ-loop : tie.MeasureT-loop
 μ-loop mem nb a base₀ len₀ base len = len
 
 loop-holds : tie.Need-loop-holds Inv-loop μ-loop
-loop-holds c = let st = c .before in left-all (λ p. getD (st .args .mem .now) (137 + p * 129) 0) (st .args .nb) (st .args .a) (st .pre .0) (st .pre .3)
+loop-holds c = let st = c .before in left-all (λ p. getD (st .args .mem .now) (137 + p * 129) 0) (st .args .nb) (st .args .nb) (st .args .a) (st .pre .0) (omega arith) (st .pre .3)
 
 add-p : tie.Need-add-p Inv-loop μ-loop
 add-p c = search needs
@@ -41,10 +41,13 @@ loop-less : tie.Need-loop-less Inv-loop μ-loop
 loop-less c = search needs
 
 loop-again : tie.Need-loop-again Inv-loop μ-loop
-loop-again c = let l = c .before .before .before .loop in left-step _ _ _ (l .base) (l .len) (l .inv) (c .step .result) (omega arith) (c .step .ensures)
+loop-again c =
+    let l = c .before .before .before .loop in
+    left-step _ _ _ _ (l .base) (l .len) (l .inv) (c .step .result) (omega arith)
+    (step-near _ _ _ _ (l .base) (l .len) (l .inv) (c .step .result) (omega arith) (c .step .ensures))
 
 returns : tie.Need-returns Inv-loop μ-loop
-returns c = let l = c .before .loop in left-one _ _ _ (l .base) (l .len) (l .inv) (omega arith)
+returns c = let l = c .before .loop in left-one _ _ _ _ (l .base) (l .len) (l .inv) (omega arith)
 
 pub find-block-spec : {M : Type 1} → statement M
 find-block-spec =
