@@ -1,11 +1,11 @@
--- What `find` answers, from the two searches by halves. Assumes nothing.
+-- What `find` answers, from the searches among the blocks and in one. Assumes nothing.
 use Prim.Native.Nat.{ℕ, _+_, _*_, _≤_, _<_}
 use mathlib.Core.Path.{_≡_, sym, _∙_}
 use mathlib.Core.List.{List}
 use native.Mathlib.Decide.{decLt}
 use native.Mathlib.Omega.{arith}
 use lib.ListN.{length, getD}
-use Rattle.cells.specs.Cells.{Halved, Located, Locates}
+use Rattle.cells.specs.Cells.{Passed, Located, Locates}
 use Rattle.cells.specs.declared.Spot.{Spot}
 use Rattle.cells.specs.declared.Spot.the-variants as spot
 use Rattle.places.proofs.Searches.{getD-any}
@@ -19,9 +19,9 @@ pub find-first : (m : List ℕ) (a : ℕ) → a < getD m 137 0 → Finds m a Bef
 unfolding Finds
 find-first m a h s = rw (flat-zero m s 0) h
 
-module _ (m : List ℕ) (sound : Sound m) (a nb : ℕ) (e : nb ≡ blocksOf m) (b : ℕ) (halved : Halved (λ p. getD m (137 + p * 129) 0) nb a b) where
+module _ (m : List ℕ) (sound : Sound m) (a nb : ℕ) (e : nb ≡ blocksOf m) (b : ℕ) (passed : Passed (λ p. getD m (137 + p * 129) 0) a nb 1 b) where
   here : b < blocksOf m
-  here = omega (arith, halved .within)
+  here = omega (arith, passed .within)
 
   -- the block's first start is not above a, so this cannot be where there is a range
   pub find-none : {r : Spot} → Locates (startsAt b m) a r → r ≡ spot.Before → Finds m a Before
@@ -31,7 +31,7 @@ module _ (m : List ℕ) (sound : Sound m) (a nb : ℕ) (e : nb ≡ blocksOf m) (
       let p = s .some b here in
       let z : 137 + b * 129 + 0 ≡ 137 + b * 129 = omega arith in
       let f : getD (startsAt b m) 0 0 ≡ getD m (137 + b * 129) 0 = start-at m sound b here 0 0 p ∙ rw z in
-      absurd (omega (arith, u (omega (arith, starts-length m sound b here)), halved .from))
+      absurd (omega (arith, u (omega (arith, starts-length m sound b here)), passed .low))
 
   pub find-in : (i : ℕ) {r : Spot} → Locates (startsAt b m) a r → r ≡ spot.At i → Finds m a (In b i)
   unfolding Finds Locates
@@ -47,5 +47,5 @@ module _ (m : List ℕ) (sound : Sound m) (a nb : ℕ) (e : nb ≡ blocksOf m) (
           ];
         },
         u .from,
-        λ s. flat-located m s b here a i u (λ t. halved .to (omega arith)),
+        λ s. flat-located m s b here a i u (λ t. passed .high (omega arith)),
       )

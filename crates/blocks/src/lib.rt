@@ -5,7 +5,7 @@ use places::Fit;
 ghost use mathlib.Core.Path.{_≡_};
 ghost use Prim.Native.Nat.{_+_, _-_, _*_, _<_, _≤_};
 ghost use lib.ListN.{length, getD};
-ghost use Rattle.cells.specs.Cells.{Halved, Locates};
+ghost use Rattle.cells.specs.Cells.{Passed, Locates};
 ghost use Rattle.places.specs.Places.{SearchUp, SearchDown};
 ghost use Rattle.blocks.specs.Blocks.{blocksOf, sizeAt, boundAt, startsAt, tagsAt, lastAt, pastAt, startsOf, tagsOf, Within, Sound, Ready};
 ghost use Rattle.blocks.specs.Looks.{Headed, There, Finds};
@@ -83,20 +83,28 @@ pub fn tag_of(mem: &[u64], b: usize, i: usize) -> u64
     mem[201 + b * 129 + i]
 }
 
-// The block that has the address a, by halves over the blocks' first starts.
+// Of the blocks `from`, from + by, from + 2 by .. before `to`: the last whose first start is at most a.
+fn pass(mem: &[u64], from: usize, to: usize, by: usize, a: u64) -> usize
+    requires { ⌜ (0 < by) × (by ≤ 8) × (from < to) × (to ≤ 128) × (136 + to * 129 ≤ length (now mem)) × (getD (now mem) (137 + from * 129) 0 ≤ a) ⌝ }
+    ensures { λ r. ⌜ Passed (λ p. getD (now (mem .entry)) (137 + p * 129) 0) a to by r ⌝ }
+{
+    let mut last = from;
+    let mut k = from + by;
+    while k < to {
+        last = cells::step(mem[137 + k * 129], a, last, k);
+        k = k + by;
+    }
+    last
+}
+
+// The block that has the address a, by the blocks' first starts: every eighth, and then those between two of them.
 fn find_block(mem: &[u64], nb: usize, a: u64) -> usize
     requires { ⌜ (0 < nb) × (nb ≤ 128) × (136 + nb * 129 ≤ length (now mem)) × (getD (now mem) 137 0 ≤ a) ⌝ }
-    ensures { λ r. ⌜ Halved (λ p. getD (now (mem .entry)) (137 + p * 129) 0) nb a r ⌝ }
+    ensures { λ r. ⌜ Passed (λ p. getD (now (mem .entry)) (137 + p * 129) 0) a nb 1 r ⌝ }
 {
-    let mut base: usize = 0;
-    let mut len = nb;
-    while 1 < len {
-        let h = len / 2;
-        let p = base + h;
-        base = cells::step(mem[137 + p * 129], a, base, p);
-        len = len - h;
-    }
-    base
+    let near = pass(mem, 0, nb, 8, a);
+    let to = cells::smaller(near + 8, nb);
+    pass(mem, near, to, 1, a)
 }
 
 // Where the address a lies among the starts of block b.

@@ -6,21 +6,16 @@ use lib.ListN.{length, getD}
 use Rattle.cells.specs.declared.Spot.{Spot}
 use Rattle.cells.specs.declared.Spot.the-variants.{At, Before}
 
--- what one step of a search by halves answers
+-- what one step of a search answers
 pub record Stepped (x a lo hi r : ℕ) : Type 0 where
   pub up : x ≤ a → r ≡ hi
   pub down : a < x → r ≡ lo
 
--- hi where it is below n, else lo
-pub record Capped (lo hi n r : ℕ) : Type 0 where
-  pub near : hi < n → r ≡ hi
-  pub far : n ≤ hi → r ≡ lo
-
--- what a search by halves answers, of numbers f 0, f 1, .. f (n - 1)
-pub record Halved (f : ℕ → ℕ) (n a r : ℕ) : Type 0 where
-  pub within : r < n
-  pub from : f r ≤ a
-  pub to : r + 1 < n → a < f (r + 1)
+-- r is below `to` and its number at most a, and the number `by` further on, if that is below `to`, is above a
+pub record Passed (f : ℕ → ℕ) (a to by r : ℕ) : Type 0 where
+  pub within : r < to
+  pub low : f r ≤ a
+  pub high : r + by < to → a < f (r + by)
 
 -- r is an index whose start is a or below it, and the next one, if there is one, is above it
 pub record Located (ss : List ℕ) (a r : ℕ) : Type 0 where

@@ -1,7 +1,8 @@
-// Looking an address up in a stretch of starts, by halves and with no branch that goes by what is read.
-ghost use Prim.Native.Nat.{max};
+// Looking an address up in a stretch of starts: eight at a time, then one by one, and with no branch that goes by what is read.
 ghost use mathlib.Core.Path.{_≡_};
-ghost use Rattle.cells.specs.Cells.{Stepped, Capped, Locates};
+ghost use Prim.Native.Nat.{_≤_, _<_, min};
+ghost use lib.ListN.{length, getD};
+ghost use Rattle.cells.specs.Cells.{Stepped, Passed, Locates};
 
 // Where an address lies among starts.
 pub enum Spot {
@@ -16,22 +17,28 @@ pub fn step(x: u64, a: u64, lo: usize, hi: usize) -> usize
     if x <= a { hi } else { lo }
 }
 
-// hi where it is below n, else lo.
-fn capped(lo: usize, hi: usize, n: usize) -> usize
-    ensures { λ r. ⌜ Capped lo hi n r ⌝ }
+pub fn smaller(a: usize, b: usize) -> usize
+    ensures { λ r. ⌜ r ≡ min a b ⌝ }
 {
-    if hi < n { hi } else { lo }
+    if a < b { a } else { b }
 }
 
-// n, or 64 where n is less.
-fn at_least_64(n: usize) -> usize
-    ensures { λ r. ⌜ r ≡ max n 64 ⌝ }
+// Of the starts at `from`, from + by, from + 2 by .. before `to`: the last that is at most a.
+fn pass(starts: &[u64], from: usize, to: usize, by: usize, a: u64) -> usize
+    requires { ⌜ (0 < by) × (by ≤ 8) × (from < to) × (to ≤ length (now starts)) × (getD (now starts) from 0 ≤ a) ⌝ }
+    ensures { λ r. ⌜ Passed (λ p. getD (now (starts .entry)) p 0) a to by r ⌝ }
 {
-    if n < 64 { 64 } else { n }
+    let mut last = from;
+    let mut k = from + by;
+    while k < to {
+        last = step(starts[k], a, last, k);
+        k = k + by;
+    }
+    last
 }
 
-// The index of the start at a or last below it, where the starts rise. By halves, and in the same number of steps for all stretches of
-// up to 64 starts: a processor that has seen one look-up foresees when the next one ends.
+// The index of the start at a or last below it, where the starts rise. Every eighth is looked at and then those between two of them, so that
+// no look waits for the one before it: up to 64 starts that is sooner done than halving.
 pub fn locate(starts: &[u64], a: u64) -> Spot
     ensures { λ r. ⌜ Locates (now (starts .entry)) a r ⌝ }
 {
@@ -42,13 +49,7 @@ pub fn locate(starts: &[u64], a: u64) -> Spot
     if a < starts[0] {
         return Spot::Before;
     }
-    let mut base: usize = 0;
-    let mut len = at_least_64(n);
-    while 1 < len {
-        let h = len / 2;
-        let p = capped(base, base + h, n);
-        base = step(starts[p], a, base, p);
-        len = len - h;
-    }
-    Spot::At(base)
+    let near = pass(starts, 0, n, 8, a);
+    let to = smaller(near + 8, n);
+    Spot::At(pass(starts, near, to, 1, a))
 }
