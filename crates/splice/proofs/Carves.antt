@@ -5,60 +5,14 @@ use mathlib.Core.List.{List, [], _∷_, _++_}
 use mathlib.Core.Bool.{Bool, true, false}
 use native.Mathlib.Decide.{ℕ-discrete, decLt}
 use native.Mathlib.Omega.{arith}
-use borrow.Author.Tests.{lt-ltb, le-ltb}
 use lib.ListN.{length, getD, take, drop}
-use Rattle.blocks.specs.Blocks.{countOf, blocksOf, limitOf, sizeAt, startsAt, tagsAt, startsOf, tagsOf, sizes, index, Sound, Bounded, Ready}
+use Rattle.blocks.specs.Blocks.{countOf, blocksOf, limitOf, sizeAt, boundAt, startsAt, tagsAt, lastAt, pastAt, startsOf, tagsOf, sizes, index, Sound, Bounded, Ready}
 use Rattle.blocks.proofs.Parts.{starts-length, tags-length, three-sizes}
-use Rattle.spread.specs.Spread.{Laid, Turned, Nearly}
+use Rattle.spread.specs.Spread.{Laid, Turned, Nearly, Covered}
 use Rattle.splice.specs.Splice.{splice, Touched, Spliced, Grown, Window, newStarts, newTags, startIn, pastIn, Carved, Cut}
-use Rattle.splice.proofs.Turns.{other-size, other-first, other-within, spliced-sound, spliced-blocks, spliced-starts, spliced-tags, spliced-total, first-kept, first-behind, spliced-self, spliced-in}
-
--- a range's pieces
-module _ (s to a size : ℕ) where
-  pub starts-both : s < a → a + size < to → newStarts s to a size ≡ s ∷ a ∷ (a + size) ∷ []
-  unfolding newStarts
-  starts-both p q = rw (lt-ltb s a p, lt-ltb (a + size) to q)
-
-  pub starts-before : s < a → to ≤ a + size → newStarts s to a size ≡ s ∷ a ∷ []
-  unfolding newStarts
-  starts-before p q = rw (lt-ltb s a p, le-ltb (a + size) to q)
-
-  pub starts-after : a ≤ s → a + size < to → newStarts s to a size ≡ a ∷ (a + size) ∷ []
-  unfolding newStarts
-  starts-after p q = rw (le-ltb s a p, lt-ltb (a + size) to q)
-
-  pub starts-whole : a ≤ s → to ≤ a + size → newStarts s to a size ≡ a ∷ []
-  unfolding newStarts
-  starts-whole p q = rw (le-ltb s a p, le-ltb (a + size) to q)
-
-  module _ (tag : ℕ) where
-    tags-both : s < a → a + size < to → newTags s to a size tag ≡ 0 ∷ tag ∷ 0 ∷ []
-    unfolding newTags
-    tags-both p q = rw (lt-ltb s a p, lt-ltb (a + size) to q)
-
-    tags-before : s < a → to ≤ a + size → newTags s to a size tag ≡ 0 ∷ tag ∷ []
-    unfolding newTags
-    tags-before p q = rw (lt-ltb s a p, le-ltb (a + size) to q)
-
-    tags-after : a ≤ s → a + size < to → newTags s to a size tag ≡ tag ∷ 0 ∷ []
-    unfolding newTags
-    tags-after p q = rw (le-ltb s a p, lt-ltb (a + size) to q)
-
-    tags-whole : a ≤ s → to ≤ a + size → newTags s to a size tag ≡ tag ∷ []
-    unfolding newTags
-    tags-whole p q = rw (le-ltb s a p, le-ltb (a + size) to q)
-
-  -- there are one to three, and the first one starts where the range does
-  pub some-pieces : (0 < length (newStarts s to a size)) × (length (newStarts s to a size) ≤ 3)
-  some-pieces =
-      elim (decLt s a) [
-        | yes p ↦ elim (decLt (a + size) to) [ yes q ↦ rw (starts-both p q) (omega arith, omega arith) | no q ↦ rw (starts-before p (omega arith)) (omega arith, omega arith) ]
-        | no p ↦ elim (decLt (a + size) to) [ yes q ↦ rw (starts-after (omega arith) q) (omega arith, omega arith) | no q ↦ rw (starts-whole (omega arith) (omega arith)) (omega arith, omega arith) ]
-      ]
-
-  pub first-piece : s ≤ a → (r : List ℕ) → getD (newStarts s to a size ++ r) 0 0 ≡ s
-  unfolding newStarts
-  first-piece h r = elim (decLt s a) [ yes p ↦ rw (lt-ltb s a p) | no p ↦ rw (le-ltb s a (omega arith)) (omega arith) ]
+use Rattle.splice.proofs.Pieces.{starts-both, starts-before, starts-after, starts-whole, tags-both, tags-before, tags-after, tags-whole, some-pieces, first-piece}
+use Rattle.splice.proofs.Bounds.{within-carved, within-more}
+use Rattle.splice.proofs.Turns.{other-size, other-first, other-last, other-within, spliced-sound, spliced-blocks, spliced-starts, spliced-tags, spliced-total, first-kept, first-behind, spliced-self, spliced-in}
 
 -- the cases of `carve`; x is the first address behind the window as the code has it
 module _ (m : List ℕ) (b i a size tag : ℕ) (sound : Sound m) (w : Window m b i a size) where
@@ -139,7 +93,7 @@ module _ (m : List ℕ) (b i a size tag : ℕ) (sound : Sound m) (w : Window m b
   unfolding Carved
   full-after p q l = rw (starts-after s to a size p q) (refl, omega arith)
 
--- what `cut` asks of `finish`, and what it leaves
+-- what `cut` asks of `finish` and of `raise`, and what it leaves
 module _ (m m₁ : List ℕ) (b i a size tag : ℕ) (sound : Sound m) (w : Window m b i a size) (nb : ℕ) (eb : nb ≡ blocksOf m) {r : Bool} (carved : Carved m m₁ b i a size tag r) (done : r ≡ true) where
   told : Carved m m₁ b i a size tag true
   told = rw done at carved
@@ -158,6 +112,9 @@ module _ (m m₁ : List ℕ) (b i a size tag : ℕ) (sound : Sound m) (w : Windo
   pub cut-ready : Sound m₁ × (nb ≡ blocksOf m₁) × (b ≤ b) × (b < b + 1) × (b + 1 ≤ nb)
   cut-ready = (sound₁, eb ∙ sym (spliced-blocks m m₁ b sound (w .there .block) i 1 _ _ new), omega arith, omega arith, omega (arith, w .there .block))
 
+  pub raise-ready : Sound m₁ × (b < blocksOf m₁)
+  raise-ready = (sound₁, rw (spliced-blocks m m₁ b sound (w .there .block) i 1 _ _ new) (w .there .block))
+
   first : getD m₁ (137 + b * 129) 0 ≡ getD m (137 + b * 129) 0
   first =
       let t = w .there .tile in
@@ -170,7 +127,7 @@ module _ (m m₁ : List ℕ) (b i a size tag : ℕ) (sound : Sound m) (w : Windo
       ]
     where
       start : i ≡ 0 → getD (take i (startsAt b m) ++ (newStarts (startIn m b i) (pastIn m b i) a size ++ drop (i + 1) (startsAt b m))) 0 0 ≡ getD (startsAt b m) 0 0
-      start z = ap (λ (k : ℕ). getD (take k (startsAt b m) ++ (newStarts (startIn m b i) (pastIn m b i) a size ++ drop (i + 1) (startsAt b m))) 0 0) z ∙ first-piece (startIn m b i) (pastIn m b i) a size (w .from) (drop (i + 1) (startsAt b m)) ∙ ap (λ (k : ℕ). getD (startsAt b m) k 0) z
+      start z = ap (λ (k : ℕ). getD (take k (startsAt b m) ++ (newStarts (startIn m b i) (pastIn m b i) a size ++ drop (i + 1) (startsAt b m))) 0 0) z ∙ first-piece (startIn m b i) (pastIn m b i) a size (w .from) (drop (i + 1) (startsAt b m)) 0 ∙ ap (λ (k : ℕ). getD (startsAt b m) k 0) z
 
   nearly : Ready m → Nearly m₁ b b (b + 1)
   unfolding Bounded
@@ -189,6 +146,28 @@ module _ (m m₁ : List ℕ) (b i a size tag : ℕ) (sound : Sound m) (w : Windo
         low = λ c k l. other-within m m₁ b sound h t c (rw e4 at k) (λ z. omega arith) (next c (λ z. omega arith)) (ready .bounded c (rw e4 at k));
         high = λ c k l. other-within m m₁ b sound h t c (rw e4 at k) (λ z. omega arith) (next c (λ z. omega arith)) (ready .bounded c (rw e4 at k));
       }
+
+  -- the block ends where it did, since the next one starts where it did
+  last : lastAt b m₁ ≡ lastAt b m
+  last =
+      let h = w .there .block in
+      let t = new .touched in
+      other-last m m₁ b sound h t b h (λ q. other-first m m₁ b sound h t (b + 1) (λ z. omega arith))
+
+  -- its bound's word is none of its own words
+  bound : boundAt b m₁ ≡ boundAt b m
+  bound = let s = sound in new .touched .below (8 + b) (omega (arith, w .there .block)) (λ z. omega arith)
+
+  -- so a bound of its free ranges is still one
+  covered : Ready m → Covered m₁ b 0
+  unfolding Bounded Covered
+  covered ready x l k =
+      let h = w .there .block in
+      let n = starts-length m sound b h in
+      let e = tags-length m sound b h in
+      let t = w .there .tile in
+      let f = within-more (pastAt b m) (startsAt b m) (tagsAt b m) (boundAt b m) x (omega (arith, bound)) (ready .bounded b h) in
+      rw (last, new .starts, new .tags) (within-carved (pastAt b m) (startIn m b i) (pastIn m b i) a size tag x (w .from) (w .to) i (startsAt b m) (tagsAt b m) (omega arith) (omega arith) refl refl (w .free) f)
 
   pub cut-done : (m₂ : List ℕ) → (Nearly m₁ b b (b + 1) → Turned m₁ m₂ (startsOf m₁) (tagsOf m₁)) → Cut m m₂ b i a size tag true
   unfolding Cut
@@ -211,6 +190,11 @@ module _ (m m₁ : List ℕ) (b i a size tag : ℕ) (sound : Sound m) (w : Windo
         },
         room,
       )
+
+  -- the same where the block's bound stays
+  pub cut-raised : (m₂ : List ℕ) → (Nearly m₁ b b (b + 1) → Covered m₁ b 0 → Turned m₁ m₂ (startsOf m₁) (tagsOf m₁)) → Cut m m₂ b i a size tag true
+  unfolding Cut
+  cut-raised m₂ f ready = cut-done m₂ (λ n. f n (covered ready)) ready
 
 pub cut-full : (m m₁ : List ℕ) (b i a size tag : ℕ) {r : Bool} → Carved m m₁ b i a size tag r → r ≡ false → Cut m m₁ b i a size tag false
 unfolding Carved Cut

@@ -112,13 +112,21 @@ fn carve(mem: &mut [u64], nb: usize, b: usize, i: usize, a: u64, size: u64, tag:
     true
 }
 
-// The same, and then new bounds, or the ranges spread anew.
+// The same, and then new bounds, or the ranges spread anew. Where the range was not the longest of its block, the block's bound stays, since no
+// piece is longer than the range was.
 pub fn cut(mem: &mut [u64], nb: usize, b: usize, i: usize, a: u64, size: u64, tag: u64) -> bool
     requires { ⌜ Sound (now mem) × (nb ≡ blocksOf (now mem)) × Window (now mem) b i a size × (sizeAt b (now mem) ≤ 61) ⌝ }
     ensures { λ r. ⌜ Cut (now (mem .entry)) (now (mem .exit)) b i a size tag r ⌝ }
 {
+    let s = blocks::start_of(mem, b, i);
+    let e = blocks::end_of(mem, nb, b, i);
+    let wide = mem[8 + b];
     let done = carve(mem, nb, b, i, a, size, tag);
     if done {
+        if e - s < wide {
+            spread::raise(mem, b, 0);
+            return true;
+        }
         spread::finish(mem, nb, b, b, b + 1);
         return true;
     }
