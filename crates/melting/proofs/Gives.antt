@@ -7,7 +7,7 @@ use native.Mathlib.Decide.{ℕ-discrete, decLt}
 use native.Mathlib.Omega.{arith}
 use lib.ListN.{length, getD}
 use Rattle.ranges.specs.Align.{Decides}
-use Rattle.blocks.specs.Blocks.{countOf, blocksOf, limitOf, sizeAt, startsAt, tagsAt, startsOf, tagsOf, sizes, index, Sound}
+use Rattle.blocks.specs.Blocks.{countOf, blocksOf, limitOf, sizeAt, startsAt, tagsAt, startsOf, tagsOf, sizes, index, Sound, Bounded, Ready}
 use Rattle.blocks.proofs.Parts.{start-at}
 use Rattle.blocks.proofs.Flat.{flat-start, flat-within}
 use Rattle.spread.specs.Spread.{Laid, Turned, Nearly}
@@ -50,25 +50,32 @@ turned-by m m₁ m₂ ss ts ss′ ts′ a b c d e u =
     let l = u .laid in
     record { laid = record { settled = l .settled; limit = l .limit ∙ a; first = l .first ∙ b; last = l .last ∙ c; starts = l .starts ∙ d; tags = l .tags ∙ e }; bounded = u .bounded }
 
--- range i of block b is given up for one or none
-module _ (m m₁ : List ℕ) (sound : Sound m) (nb b i lo hi : ℕ) (eb : nb ≡ blocksOf m) (h : b < hi) (k : hi ≤ nb) (t : i < sizeAt b m) (ns nt : List ℕ) (one : length ns ≤ 1) (s : Spliced m m₁ b i 1 ns nt) where
+-- a table, as one that has yet to be changed
+pub ready-almost : (m : List ℕ) (b hi : ℕ) → Ready m → Almost m b hi
+unfolding Bounded
+ready-almost m b hi ready =
+    let st = ready .settled in
+    record { total = st .total; some = λ c k z. st .some c k; spare = st .spare; low = λ c k l. ready .bounded c k; high = λ c k l. ready .bounded c k }
+
+-- `by` ranges at range i of block b are given up for as many or fewer
+module _ (m m₁ : List ℕ) (sound : Sound m) (nb b i by lo hi : ℕ) (eb : nb ≡ blocksOf m) (h : b < hi) (k : hi ≤ nb) (t : i + by ≤ sizeAt b m) (ns nt : List ℕ) (few : length ns ≤ by) (s : Spliced m m₁ b i by ns nt) where
   here : b < blocksOf m
   here = omega arith
 
   sound₁ : Sound m₁
-  sound₁ = spliced-sound m m₁ b sound here i 1 ns nt s (omega (arith, sound .count))
+  sound₁ = spliced-sound m m₁ b sound here i by ns nt s (omega (arith, sound .count))
 
   pub give-ready : lo ≤ b → Sound m₁ × (nb ≡ blocksOf m₁) × (lo ≤ b) × (b < hi) × (hi ≤ nb)
-  give-ready l = (sound₁, eb ∙ sym (spliced-blocks m m₁ b sound here i 1 ns nt s), l, h, k)
+  give-ready l = (sound₁, eb ∙ sym (spliced-blocks m m₁ b sound here i by ns nt s), l, h, k)
 
   nearly : lo ≤ b → b ≤ lo + 1 → (i ≡ 0 → 0 < b → lo < b) → 0 < countOf m₁ → Almost m b hi → Nearly m₁ lo b hi
   nearly l₁ l₂ l₃ many a =
       let x = s .touched in
-      let e4 = spliced-blocks m m₁ b sound here i 1 ns nt s in
+      let e4 = spliced-blocks m m₁ b sound here i by ns nt s in
       let next : (c : ℕ) → (c < lo) → c + 1 < blocksOf m → getD m₁ (137 + (c + 1) * 129) 0 ≡ getD m (137 + (c + 1) * 129) 0 = λ c z q. elim (ℕ-discrete (c + 1) b) [ yes y ↦ rw y (first c z y) | no y ↦ other-first m m₁ b sound here x (c + 1) y ] in
       record {
         many = many;
-        total = spliced-total m m₁ b sound here i 1 ns nt s (omega arith) (a .total);
+        total = spliced-total m m₁ b sound here i by ns nt s (omega arith) (a .total);
         some = λ c q z y. rw (other-size m m₁ b sound here x c z) (a .some c (rw e4 at q) y);
         spare = λ c q z. rw (other-size m m₁ b sound here x c z) (a .spare c (rw e4 at q));
         low = λ c q l. other-within m m₁ b sound here x c (rw e4 at q) (λ z. omega arith) (next c l) (a .low c (rw e4 at q) (omega arith));
@@ -76,12 +83,12 @@ module _ (m m₁ : List ℕ) (sound : Sound m) (nb b i lo hi : ℕ) (eb : nb ≡
       }
     where
       first : (c : ℕ) → c < lo → c + 1 ≡ b → getD m₁ (137 + b * 129) 0 ≡ getD m (137 + b * 129) 0
-      first c z y = elim (decLt 0 i) [ yes p ↦ first-behind m m₁ b sound here i 1 ns nt s p (omega arith) sound₁ | no p ↦ absurd (omega (arith, l₃ (omega arith) (omega arith))) ]
+      first c z y = elim (decLt 0 i) [ yes p ↦ first-behind m m₁ b sound here i by ns nt s p (omega arith) sound₁ | no p ↦ absurd (omega (arith, l₃ (omega arith) (omega arith))) ]
 
-  pub give-turned : lo ≤ b → b ≤ lo + 1 → (i ≡ 0 → 0 < b → lo < b) → 0 < countOf m₁ → Almost m b hi → (m₂ : List ℕ) → (Nearly m₁ lo b hi → Turned m₁ m₂ (startsOf m₁) (tagsOf m₁)) → Turned m m₂ (splice (index b i m) 1 ns (startsOf m)) (splice (index b i m) 1 nt (tagsOf m))
+  pub give-turned : lo ≤ b → b ≤ lo + 1 → (i ≡ 0 → 0 < b → lo < b) → 0 < countOf m₁ → Almost m b hi → (m₂ : List ℕ) → (Nearly m₁ lo b hi → Turned m₁ m₂ (startsOf m₁) (tagsOf m₁)) → Turned m m₂ (splice (index b i m) by ns (startsOf m)) (splice (index b i m) by nt (tagsOf m))
   give-turned l₁ l₂ l₃ many a m₂ f =
       let x = s .touched in
-      turned-by m m₁ m₂ (startsOf m₁) (tagsOf m₁) (splice (index b i m) 1 ns (startsOf m)) (splice (index b i m) 1 nt (tagsOf m)) (x .below 5 (omega arith) (λ z. omega arith)) (x .below 2 (omega arith) (λ z. omega arith)) (x .below 3 (omega arith) (λ z. omega arith)) (spliced-starts m m₁ b sound here i 1 ns nt s (omega arith)) (spliced-tags m m₁ b sound here i 1 ns nt s (omega arith)) (f (nearly l₁ l₂ l₃ many a))
+      turned-by m m₁ m₂ (startsOf m₁) (tagsOf m₁) (splice (index b i m) by ns (startsOf m)) (splice (index b i m) by nt (tagsOf m)) (x .below 5 (omega arith) (λ z. omega arith)) (x .below 2 (omega arith) (λ z. omega arith)) (x .below 3 (omega arith) (λ z. omega arith)) (spliced-starts m m₁ b sound here i by ns nt s (omega arith)) (spliced-tags m m₁ b sound here i by ns nt s (omega arith)) (f (nearly l₁ l₂ l₃ many a))
 
 -- what `give` leaves
 module _ (m : List ℕ) (sound : Sound m) (nb b i lo hi : ℕ) (eb : nb ≡ blocksOf m) (h : b < hi) (k : hi ≤ nb) (t : i < sizeAt b m) (l₁ : lo ≤ b) (l₂ : b ≤ lo + 1) (l₃ : i ≡ 0 → 0 < b → lo < b) (r : Bool) (fb : FreeBefore m b i r) (m₁ m₂ : List ℕ) (f : Nearly m₁ lo b hi → Turned m₁ m₂ (startsOf m₁) (tagsOf m₁)) where
@@ -92,11 +99,11 @@ module _ (m : List ℕ) (sound : Sound m) (nb b i lo hi : ℕ) (eb : nb ≡ bloc
   given-up e s a =
       let d : (0 < index b i m) × Free m (index b i m - 1) = rw e at (told a) in
       let w = flat-within m sound b (omega arith) i t in
-      record { before = true; told = d; turned = give-turned m m₁ sound nb b i lo hi eb h k t [] [] (omega arith) s l₁ l₂ l₃ (omega (arith, s .count, d .0, a .total)) a m₂ f }
+      record { before = true; told = d; turned = give-turned m m₁ sound nb b i 1 lo hi eb h k (omega arith) [] [] (omega arith) s l₁ l₂ l₃ (omega (arith, s .count, d .0, a .total)) a m₂ f }
 
   pub given-free : r ≡ false → (s : ℕ) → s ≡ getD m (137 + b * 129 + i) 0 → Spliced m m₁ b i 1 (s ∷ []) (0 ∷ []) → Almost m b hi → Given m m₂ (index b i m)
   given-free e s es u a =
       let d : (0 < index b i m) × Free m (index b i m - 1) → ⊥ = rw e at (told a) in
       let w = flat-within m sound b (omega arith) i t in
       let q : getD (startsOf m) (index b i m) 0 ≡ s = flat-start m sound b (omega arith) i 0 t ∙ start-at m sound b (omega arith) i 0 t ∙ sym es in
-      record { before = false; told = d; turned = rw q (give-turned m m₁ sound nb b i lo hi eb h k t (s ∷ []) (0 ∷ []) (omega arith) u l₁ l₂ l₃ (omega (arith, u .count, a .total)) a m₂ f) }
+      record { before = false; told = d; turned = rw q (give-turned m m₁ sound nb b i 1 lo hi eb h k (omega arith) (s ∷ []) (0 ∷ []) (omega arith) u l₁ l₂ l₃ (omega (arith, u .count, a .total)) a m₂ f) }

@@ -16,7 +16,7 @@ use Rattle.splice.specs.Splice.{splice, Spliced}
 use Rattle.splice.proofs.Turns.{other-size, other-first, other-within, touched-sizes, spliced-sound, spliced-blocks, spliced-starts, spliced-tags, spliced-total, first-behind}
 use Rattle.melting.specs.Melting.{Free, Almost, Given, Gone, Absorbed, Melted}
 use Rattle.melting.proofs.Frees.{free-by, not-free, behind-here, behind-there, decide-map, less-get, less-less, none-less}
-use Rattle.melting.proofs.Gives.{turned-by}
+use Rattle.melting.proofs.Gives.{turned-by, ready-almost}
 
 module _ (m : List ℕ) (sound : Sound m) (nb b i : ℕ) (eb : nb ≡ blocksOf m) (h : b < nb) (t : i < sizeAt b m) where
   here : b < blocksOf m
@@ -24,7 +24,6 @@ module _ (m : List ℕ) (sound : Sound m) (nb b i : ℕ) (eb : nb ≡ blocksOf m
 
   -- nothing is given up
   pub absorb-none : (Ready m → Free m (index b i m + 1) → ⊥) → Absorbed m m b i (b + 1)
-  unfolding Bounded
   absorb-none f =
       record {
         sound = sound;
@@ -32,19 +31,17 @@ module _ (m : List ℕ) (sound : Sound m) (nb b i : ℕ) (eb : nb ≡ blocksOf m
         tile = t;
         from = omega arith;
         to = omega arith;
-        gone = λ ready.
-            let st = ready .settled in
-            record {
-              after = false;
-              told = f ready;
-              almost = record { total = st .total; some = λ c k z. st .some c k; spare = st .spare; low = λ c k l. ready .bounded c k; high = λ c k l. ready .bounded c k };
-              limit = refl;
-              first = refl;
-              last = refl;
-              place = refl;
-              starts = none-less (startsOf m) (index b i m + 1);
-              tags = none-less (tagsOf m) (index b i m + 1);
-            };
+        gone = λ ready. record {
+          after = false;
+          told = f ready;
+          almost = ready-almost m b (b + 1) ready;
+          limit = refl;
+          first = refl;
+          last = refl;
+          place = refl;
+          starts = none-less (startsOf m) (index b i m + 1);
+          tags = none-less (tagsOf m) (index b i m + 1);
+        };
       }
 
   pub granted-here : i + 1 < sizeAt b m → (getD m (201 + b * 129 + (i + 1)) 0 ≡ 0 → ⊥) → Absorbed m m b i (b + 1)

@@ -1,3 +1,4 @@
 pub mod Frees
 pub mod Gives
 pub mod Gones
+pub mod Inner

@@ -1,7 +1,8 @@
 // A granted range given back: it becomes free, and one with the free ranges beside it, across a block's border too. The table alone calls this.
 ghost use mathlib.Core.Path.{_≡_};
 ghost use Prim.Native.Nat.{_+_, _<_, _≤_};
-ghost use Rattle.blocks.specs.Blocks.{blocksOf, sizeAt, index, Sound, Ready};
+ghost use lib.ListN.{getD};
+ghost use Rattle.blocks.specs.Blocks.{blocksOf, sizeAt, startsAt, pastAt, index, Sound, Ready};
 ghost use Rattle.melting.specs.Melting.{FreeBefore, Almost, Given, Absorbed, Melted};
 
 // Whether the range before range i of block b is there, and free.
@@ -87,11 +88,79 @@ fn absorb(mem: &mut [u64], nb: usize, b: usize, i: usize) -> usize
     c + 1
 }
 
+// The last address of range j of block b: the next range starts at most one further.
+fn last_of(mem: &[u64], nb: usize, b: usize, j: usize) -> u64
+    requires { ⌜ Sound (now mem) × (nb ≡ blocksOf (now mem)) × (b < nb) × (j < sizeAt b (now mem)) ⌝ }
+    ensures { λ r. ⌜ getD (startsAt b (now (mem .entry))) (j + 1) (pastAt b (now (mem .entry))) ≤ r + 1 ⌝ }
+{
+    let k = j + 1;
+    let n = blocks::size_of(mem, b);
+    if k < n {
+        let next = blocks::start_of(mem, b, k);
+        if 0 < next {
+            return next - 1;
+        }
+        return 0;
+    }
+    blocks::end_of_block(mem, nb, b)
+}
+
+// How far it is from s to e; 0 where e is below s.
+fn reach(s: u64, e: u64) -> u64
+    ensures { λ r. ⌜ e ≤ s + r ⌝ }
+{
+    if e < s {
+        return 0;
+    }
+    e - s
+}
+
+// Gives range i of block b back, which is neither the first nor the last of its block. That block alone changes, and its other ranges keep
+// their ends: so its bound is raised to the length of the free range that there is then, with no look at the others.
+fn inside(mem: &mut [u64], nb: usize, b: usize, i: usize)
+    requires { ⌜ Sound (now mem) × (nb ≡ blocksOf (now mem)) × (b < nb) × (0 < i) × (i + 1 < sizeAt b (now mem)) ⌝ }
+    ensures { λ _. ⌜ (Ready (now (mem .entry)) → Melted (now (mem .entry)) (now (mem .exit)) (index b i (now (mem .entry)))) ⌝ }
+{
+    let p = i - 1;
+    let q = i + 1;
+    let f = blocks::start_of(mem, b, p);
+    let s = blocks::start_of(mem, b, i);
+    let before = blocks::tag_of(mem, b, p);
+    let behind = blocks::tag_of(mem, b, q);
+    if behind == 0 {
+        let e = last_of(mem, nb, b, q);
+        if before != 0 {
+            splice::shrink(mem, b, q, 1);
+            splice::put(mem, b, i, s, 0);
+            spread::raise(mem, b, reach(s, e));
+            return;
+        }
+        splice::shrink(mem, b, i, 2);
+        spread::raise(mem, b, reach(f, e));
+        return;
+    }
+    let e = last_of(mem, nb, b, i);
+    if before != 0 {
+        splice::put(mem, b, i, s, 0);
+        spread::raise(mem, b, reach(s, e));
+        return;
+    }
+    splice::shrink(mem, b, i, 1);
+    spread::raise(mem, b, reach(f, e));
+}
+
 // Gives range i of block b back.
 pub fn melt(mem: &mut [u64], nb: usize, b: usize, i: usize)
     requires { ⌜ Sound (now mem) × (nb ≡ blocksOf (now mem)) × (b < nb) × (i < sizeAt b (now mem)) ⌝ }
     ensures { λ _. ⌜ (Ready (now (mem .entry)) → Melted (now (mem .entry)) (now (mem .exit)) (index b i (now (mem .entry)))) ⌝ }
 {
+    if 0 < i {
+        let n = blocks::size_of(mem, b);
+        if i + 1 < n {
+            inside(mem, nb, b, i);
+            return;
+        }
+    }
     let hi = absorb(mem, nb, b, i);
     give(mem, nb, b, i, hi);
 }

@@ -34,7 +34,7 @@ shrink-requires : tie.Need-shrink-requires
 shrink-requires c κs = let st = c .before .before .before .before .before .before .before in let a = st .args in let m = a .mem .now in (st .pre .0, omega (arith, st .pre .1), omega (arith, st .pre .4))
 
 finish-requires : tie.Need-finish-requires
-finish-requires c κs = let st = c .before .before .before .before .before .before .before .before .before .before .before in let a = st .args in let m = a .mem .now in let l = c .before .before .before .before .before .before .before .before .before .lowest .ensures in give-ready m (c .before .before .before .shrink .last .0) (st .pre .0) (a .nb) (a .b) (a .i) (c .before .before .before .before .before .before .before .before .before .lowest .result) (a .hi) (st .pre .1) (st .pre .2) (st .pre .3) (st .pre .4) [] [] (omega arith) (c .before .before .before .shrink .ensures) (l .0)
+finish-requires c κs = let st = c .before .before .before .before .before .before .before .before .before .before .before in let a = st .args in let m = a .mem .now in let l = c .before .before .before .before .before .before .before .before .before .lowest .ensures in give-ready m (c .before .before .before .shrink .last .0) (st .pre .0) (a .nb) (a .b) (a .i) 1 (c .before .before .before .before .before .before .before .before .before .lowest .result) (a .hi) (st .pre .1) (st .pre .2) (st .pre .3) (omega (arith, st .pre .4)) [] [] (omega arith) (c .before .before .before .shrink .ensures) (l .0)
 
 same-length : tie.Need-same-length
 same-length c = search needs
@@ -46,7 +46,7 @@ put-requires : tie.Need-put-requires
 put-requires c κs = let st = c .before .before .before .before .before .before .before in let a = st .args in let m = a .mem .now in (st .pre .0, omega (arith, st .pre .1), st .pre .4)
 
 finish-requires-2 : tie.Need-finish-requires-2
-finish-requires-2 c κs = let st = c .before .before .before .before .before .before .before .before .before .before .before in let a = st .args in let m = a .mem .now in let l = c .before .before .before .before .before .before .before .before .before .lowest .ensures in give-ready m (c .before .before .before .put .last .0) (st .pre .0) (a .nb) (a .b) (a .i) (c .before .before .before .before .before .before .before .before .before .lowest .result) (a .hi) (st .pre .1) (st .pre .2) (st .pre .3) (st .pre .4) (_ ∷ []) (0 ∷ []) (omega arith) (c .before .before .before .put .ensures) (l .0)
+finish-requires-2 c κs = let st = c .before .before .before .before .before .before .before .before .before .before .before in let a = st .args in let m = a .mem .now in let l = c .before .before .before .before .before .before .before .before .before .lowest .ensures in give-ready m (c .before .before .before .put .last .0) (st .pre .0) (a .nb) (a .b) (a .i) 1 (c .before .before .before .before .before .before .before .before .before .lowest .result) (a .hi) (st .pre .1) (st .pre .2) (st .pre .3) (omega (arith, st .pre .4)) (_ ∷ []) (0 ∷ []) (omega arith) (c .before .before .before .put .ensures) (l .0)
 
 same-length-2 : tie.Need-same-length-2
 same-length-2 c = search needs
