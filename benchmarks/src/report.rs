@@ -68,6 +68,21 @@ impl Row {
         Some(median(&mut times))
     }
 
+    /// The library's share of vm-allocator's time in each run.
+    fn shares(&self) -> Option<Vec<String>> {
+        self.runs.iter().map(|run| Some(format!("{:.3}", run[1].as_ref()?.whole / run[0].as_ref()?.whole))).collect()
+    }
+
+    /// Nanoseconds of each operation that was timed by itself: the least of the runs, since all that is not the operation's own
+    /// adds to it.
+    fn each(&self, side: usize, clock: f64) -> Option<Vec<f64>> {
+        let least = |i: usize| -> Option<f64> {
+            let times = self.runs.iter().map(|run| Some(run[side].as_ref()?.singly[i])).collect::<Option<Vec<f64>>>()?;
+            Some(times.into_iter().fold(f64::INFINITY, f64::min) - clock)
+        };
+        (0..self.kinds.len()).map(least).collect()
+    }
+
     /// Nanoseconds of the operations of a kind: of each the median of the runs, of those the mean.
     fn of_kind(&self, side: usize, kind: &str, clock: f64) -> Option<f64> {
         let (mut n, mut sum) = (0, 0.0);
@@ -129,6 +144,33 @@ fn growth(rows: &[Row]) {
     }
 }
 
+/// Each run by itself, where the median alone would hide how far apart they are.
+fn each_run(rows: &[Row]) {
+    println!("\n| 2,000 ranges, a run each | {} |\n|---|---|", SIDES[1]);
+    for row in rows.iter().filter(|row| row.name.ends_with(" 2000")) {
+        println!("| {} | {} |", row.name, row.shares().map_or("skipped".to_string(), |shares| shares.join(", ")));
+    }
+}
+
+/// An operation of the library that takes this long spreads the ranges over the blocks anew: no other comes near it.
+const SPREAD: f64 = 2000.0;
+
+/// The slowest operation, how many spread the ranges, and the fewest operations from one of those to the next.
+fn worst(rows: &[Row], clock: f64) {
+    println!("\n| 4,000 ranges | slowest of vm-allocator | slowest of Rangekeeper | spreads | operations from one to the next, at least |");
+    println!("|---|---|---|---|---|");
+    for row in rows.iter().filter(|row| row.name.ends_with(" 4000")) {
+        let slowest = |side| row.each(side, clock).map(|times| times.into_iter().fold(0.0, f64::max));
+        let spreads: Vec<usize> = match row.each(1, clock) {
+            Some(times) => (0..times.len()).filter(|i| times[*i] >= SPREAD).collect(),
+            None => Vec::new(),
+        };
+        let apart = spreads.windows(2).map(|pair| pair[1] - pair[0]).min();
+        let apart = apart.map_or(String::new(), |n| n.to_string());
+        println!("| {} | {} | {} | {} | {apart} |", row.name, cell(slowest(0)), cell(slowest(1)), spreads.len());
+    }
+}
+
 /// `clock` is what is taken off each operation that was timed by itself.
 pub fn tables(addresses: &[Row], ids: &[Row], runs: usize, count: usize, clock: f64) {
     for work in WORKS {
@@ -142,6 +184,13 @@ pub fn tables(addresses: &[Row], ids: &[Row], runs: usize, count: usize, clock: 
     whole("workload, about so many ranges", "ranges seen", addresses);
     println!("\nGrowth: how many times the time at 64 ranges the time at 4,000 is, in the same run.");
     growth(addresses);
+    println!("\nThe share of vm-allocator's time in each of the {runs} runs.");
+    each_run(addresses);
+    println!(
+        "\nThe slowest of {count} operations that were timed by themselves, of each the least of {runs} runs, in nanoseconds. One of the library's \
+         that takes {SPREAD:.0} or more spreads the ranges over the blocks anew."
+    );
+    worst(addresses, clock);
     whole("ids, so many granted", "granted", ids);
     println!(
         "\nNanoseconds by kind, {}; in brackets how many of {count}. {clock:.0} ns are taken off for the clock.",
