@@ -1,4 +1,4 @@
-//! The sequences: W1 to W4 on addresses, and ids. Each is made once, beside two BTreeMaps, and then played to every side.
+//! The sequences: W1 to W5 on addresses, and ids. Each is made once, beside two BTreeMaps, and then played to every side.
 //!
 //! No operation in them is one on which the Rust departs from its documentation: `departs` is asked before each.
 use crate::definition::State;
@@ -44,9 +44,10 @@ pub enum Work {
     W2,
     W3,
     W4,
+    W5,
 }
 
-pub const WORKS: [Work; 4] = [Work::W1, Work::W2, Work::W3, Work::W4];
+pub const WORKS: [Work; 5] = [Work::W1, Work::W2, Work::W3, Work::W4, Work::W5];
 
 impl Work {
     pub fn says(self) -> &'static str {
@@ -55,23 +56,25 @@ impl Work {
             Work::W2 => "sizes of powers of two from 4 KiB to 1 GiB, aligned to themselves, first and last",
             Work::W3 => "sizes of 1 to 16 pages, five in six requests exact",
             Work::W4 => "cuts and melts in one place, the rest of the pool in pieces",
+            Work::W5 => "as W1, in a pool so full that about one request in four is refused, after a search through all of it",
         }
     }
 
-    /// How many pages of pool there are for each range wanted. W1 and W2 have so few that a search goes far.
+    /// How many pages of pool there are for each range wanted. W1 and W2 have so few that a search goes far, W5 still fewer.
     fn pages(self) -> u64 {
         match self {
             Work::W1 => 7,
             Work::W2 => 32_000,
             Work::W3 => 26,
             Work::W4 => 8,
+            Work::W5 => 4,
         }
     }
 
     /// How many ranges are to be granted for a thousand wanted, free and granted together.
     fn granted(self) -> u64 {
         match self {
-            Work::W1 => 770,
+            Work::W1 | Work::W5 => 770,
             Work::W2 => 760,
             Work::W3 => 650,
             Work::W4 => 500,
@@ -148,7 +151,7 @@ impl Maker {
         let pages = 1 + self.dice.below(16);
         let end = if self.dice.below(2) == 0 { Policy::First } else { Policy::Last };
         let exact = match self.work {
-            Work::W1 => self.dice.below(3) == 0,
+            Work::W1 | Work::W5 => self.dice.below(3) == 0,
             Work::W3 => self.dice.below(6) != 0,
             _ => false,
         };
