@@ -94,6 +94,8 @@ impl AddressAllocator {
 
     /// Grants `size` addresses that are free, from a multiple of `alignment` on.
     ///
+    /// Of any sequence of calls: between two grants that share an address the whole range of the first was given back.
+    ///
     /// Refused, in this order: what [`Constraint::new`](crate::Constraint::new) refuses; an exact range whose address is free and whose end
     /// would lie beyond 2^64 - 1 (`Error::Overflow`); no place (`Error::ResourceNotAvailable`); more ranges than the limit
     /// (`Error::NoRoom`).

@@ -51,6 +51,8 @@ impl IdAllocator {
 
     /// Grants the lowest id that is not granted.
     ///
+    /// Of any sequence of calls: between two grants of one id there was a [`free_id`](Self::free_id) of it that was answered with the id.
+    ///
     /// Refused: none is left (`Error::ResourceNotAvailable`; where the highest id is 2^32 - 1, `Error::Overflow`).
     pub fn allocate_id(&mut self) -> Result<u32> {
         let mut id = 0;
