@@ -14,7 +14,7 @@ use ranges::{AllocPolicy, Constraint, ConstraintMade, Error, RangeInclusive, Ran
 use table::{Begun, Change, Place, Stands};
 
 // What an operation answers: a range is granted, the range that was given back is free, or nothing is done.
-#[derive(Drop)]
+#[derive(Clone, Copy)]
 pub enum Answer {
     Granted(RangeInclusive),
     Freed(RangeInclusive),
@@ -22,7 +22,7 @@ pub enum Answer {
 }
 
 // Whether an allocator was made.
-#[derive(Drop)]
+#[derive(Clone, Copy)]
 pub enum Setup {
     Ready,
     Unfit(Error),

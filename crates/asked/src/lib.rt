@@ -5,7 +5,7 @@ use claims::Claim;
 use lines::Line;
 
 // What became of a line.
-#[derive(Drop)]
+#[derive(Clone, Copy)]
 pub enum Outcome {
     // it asks nothing of the kind, or claims what it cannot answer
     Unfit,

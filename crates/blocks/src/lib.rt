@@ -13,14 +13,14 @@ use places::Fit;
 pub const MARK: u64 = 0x524b_7461_626c_6532;
 
 // How many blocks are in use, as the header says.
-#[derive(Drop)]
+#[derive(Clone, Copy)]
 pub enum Head {
     Good(usize),
     Bad,
 }
 
 // The block and the range in it.
-#[derive(Drop)]
+#[derive(Clone, Copy)]
 pub enum Where {
     In(usize, usize),
     Before,

@@ -7,14 +7,14 @@ use addresses::Answer;
 use ranges::{Constraint, Error, RangeInclusive};
 
 // What one pool answers.
-#[derive(Drop)]
+#[derive(Clone, Copy)]
 enum Got {
     Granted(RangeInclusive),
     Refused(Error),
 }
 
 // A range of each pool, or which request was refused and why.
-#[derive(Drop)]
+#[derive(Clone, Copy)]
 pub enum Pair {
     Both {
         first: RangeInclusive,
@@ -25,7 +25,7 @@ pub enum Pair {
 }
 
 // A range of each pool and an id, or which request was refused and why.
-#[derive(Drop)]
+#[derive(Clone, Copy)]
 pub enum Triple {
     All {
         first: RangeInclusive,

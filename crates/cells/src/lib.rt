@@ -1,9 +1,10 @@
 // Looking an address up in a stretch of starts: eight at a time, then one by one, and with no branch that goes by what is read.
+#![tactic(auto)]
 ghost use Rattle.std.specs.Prelude.{◌≡◌, ◌≤◌, ◌<◌, min, length, get_or};
 ghost use Rattle.cells.specs.Cells.{Stepped, Passed, Locates};
 
 // Where an address lies among starts.
-#[derive(Drop)]
+#[derive(Clone, Copy)]
 pub enum Spot {
     At(usize),
     Before,

@@ -7,7 +7,7 @@ use ranges::Error;
 use vocabulary::Word;
 
 // The answer that some monitor claims to have given.
-#[derive(Drop)]
+#[derive(Clone, Copy)]
 pub enum Claim {
     Unsaid,
     Window(u64, u64),
@@ -18,13 +18,13 @@ pub enum Claim {
     No,
 }
 
-#[derive(Drop)]
+#[derive(Clone, Copy)]
 pub enum ClaimTaken {
     Is(Claim),
     Wrong(Flaw, usize),
 }
 
-#[derive(Drop)]
+#[derive(Clone, Copy)]
 pub enum ReasonTaken {
     Is(Error),
     Wrong(Flaw, usize),

@@ -20,7 +20,7 @@ use ranges::AllocPolicy;
 use text::Placed;
 
 // A number that names a case, and two numbers that it holds.
-#[derive(Drop)]
+#[derive(Clone, Copy)]
 pub struct Three {
     pub kind: u64,
     pub a: u64,

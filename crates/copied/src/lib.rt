@@ -9,14 +9,14 @@ use ranges::{AllocPolicy, Error};
 use table::Stands;
 
 // Whether the copy was made.
-#[derive(Drop)]
+#[derive(Clone, Copy)]
 pub enum Copied {
     Done,
     Refused(Error),
 }
 
 // What the source's header says of its pool.
-#[derive(Drop)]
+#[derive(Clone, Copy)]
 enum Extent {
     Pool { base: u64, size: u64, count: usize },
     Missing,

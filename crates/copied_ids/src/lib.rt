@@ -7,7 +7,7 @@ use ids::Interval;
 use ranges::Error;
 
 // Whether the copy was made.
-#[derive(Drop)]
+#[derive(Clone, Copy)]
 pub enum Copied {
     Done,
     Refused(Error),

@@ -13,14 +13,14 @@ use text::Class;
 use vocabulary::Word;
 
 // The place of a name in the line.
-#[derive(Drop)]
+#[derive(Clone, Copy)]
 pub struct Name {
     pub start: usize,
     pub len: usize,
 }
 
 // What can be wrong with a line.
-#[derive(Drop)]
+#[derive(Clone, Copy)]
 pub enum Flaw {
     LineTooLong,
     UnknownWord,
@@ -37,31 +37,31 @@ pub enum Flaw {
     CountExpected,
 }
 
-#[derive(Drop)]
+#[derive(Clone, Copy)]
 pub enum NameTaken {
     Is(Name, usize),
     Wrong(Flaw, usize),
 }
 
-#[derive(Drop)]
+#[derive(Clone, Copy)]
 pub enum NumberTaken {
     Is(u64, usize),
     Wrong(Flaw, usize),
 }
 
-#[derive(Drop)]
+#[derive(Clone, Copy)]
 pub enum IdTaken {
     Is(u32, usize),
     Wrong(Flaw, usize),
 }
 
-#[derive(Drop)]
+#[derive(Clone, Copy)]
 pub enum WindowTaken {
     Is(u64, u64, usize),
     Wrong(Flaw, usize),
 }
 
-#[derive(Drop)]
+#[derive(Clone, Copy)]
 pub enum PolicyTaken {
     Is(AllocPolicy, usize),
     Wrong(Flaw, usize),

@@ -7,7 +7,7 @@ ghost use Rattle.frame.specs.Flaws.{number_of};
 ghost use Rattle.frame.specs.Steps.{Three};
 
 // Why bytes are no saved allocator. The order is that of the numbers, which never change.
-#[derive(Drop)]
+#[derive(Clone, Copy)]
 pub enum Flaw {
     // They end too early.
     Short,
@@ -52,7 +52,7 @@ impl Flaw {
 }
 
 // The numbers of a frame, or a flaw and the place of the byte at which it stands.
-#[derive(Drop)]
+#[derive(Clone, Copy)]
 pub enum Opened {
     Good {
         first: u64,

@@ -11,7 +11,7 @@ use ids::Answer;
 use ranges::Error;
 
 // What is said of a claim.
-#[derive(Drop)]
+#[derive(Clone, Copy)]
 pub enum Verdict {
     // it is the answer
     Right,
@@ -22,7 +22,7 @@ pub enum Verdict {
 }
 
 // Whether the block goes on from a claim, or why not.
-#[derive(Drop)]
+#[derive(Clone, Copy)]
 pub enum Taken {
     Done,
     Hindered(Error),

@@ -18,28 +18,28 @@ use ranges::Error;
 const MARK: u64 = 0x524b_2d69_6473_3031;
 
 // An id, or why there is none.
-#[derive(Drop)]
+#[derive(Clone, Copy)]
 pub enum Answer {
     Id(u32),
     Refused(Error),
 }
 
 // Whether an allocator was made.
-#[derive(Drop)]
+#[derive(Clone, Copy)]
 pub enum Setup {
     Ready,
     Unfit(Error),
 }
 
 // The interval, and the lowest id that was never granted, which is high + 1 where there is none: up to 2^32, so wider than an id.
-#[derive(Drop)]
+#[derive(Clone, Copy)]
 pub enum Interval {
     Of { low: u32, high: u32, next: u64 },
     NoState,
 }
 
 // The place of an interval's last bit, where the memory is an id allocator's.
-#[derive(Drop)]
+#[derive(Clone, Copy)]
 enum Last {
     Bit(u32),
     Missing,

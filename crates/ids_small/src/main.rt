@@ -11,7 +11,7 @@ use std::num::{wrapping_add_u32, wrapping_add_u64, wrapping_sub_u32};
 const REFUSED: u64 = 0x1_0000_0000;
 
 // The ids low to low + n - 1; a state; and an operation: 0 is `allocate`, k is `free` of low + k - 2.
-#[derive(Drop)]
+#[derive(Clone, Copy)]
 struct Case {
     low: u32,
     n: u32,
@@ -20,7 +20,7 @@ struct Case {
     k: u32,
 }
 
-#[derive(Drop)]
+#[derive(Clone, Copy)]
 struct Count {
     states: u64,
     operations: u64,

@@ -9,14 +9,14 @@ mod word;
 use fields::{Flaw, Name, NameTaken};
 
 // Which of the two a line wants.
-#[derive(Drop)]
+#[derive(Clone, Copy)]
 pub enum Way {
     Save,
     Load,
 }
 
 // What a line says of files.
-#[derive(Drop)]
+#[derive(Clone, Copy)]
 pub enum Kept {
     // nothing: it is another line
     Another,

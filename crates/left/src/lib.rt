@@ -7,7 +7,7 @@ use ranges::Error;
 use table::Stands;
 
 // The number of free addresses and the size of the largest free range, or why there are none.
-#[derive(Drop)]
+#[derive(Clone, Copy)]
 pub enum Left {
     Known { free: u64, largest: u64 },
     Refused(Error),

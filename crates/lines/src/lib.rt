@@ -9,14 +9,14 @@ use ranges::AllocPolicy;
 use vocabulary::Word;
 
 // How many ranges a pool's table may hold.
-#[derive(Drop)]
+#[derive(Clone, Copy)]
 pub enum Limit {
     Unsaid,
     Said(u64),
 }
 
 // What a line says.
-#[derive(Drop)]
+#[derive(Clone, Copy)]
 pub enum Line {
     Blank,
     Pool {

@@ -16,7 +16,7 @@ use ranges::AllocPolicy;
 const KIND: u64 = 0x4164_6576_6173_4b52;
 
 // How many bytes were read, that the block is too short, or what is wrong with the bytes, and the place of the byte at which it stands.
-#[derive(Drop)]
+#[derive(Clone, Copy)]
 pub enum Loaded {
     Bytes(usize),
     NoRoom,
@@ -24,7 +24,7 @@ pub enum Loaded {
 }
 
 // What a test found.
-#[derive(Drop)]
+#[derive(Clone, Copy)]
 enum Found {
     Fine,
     Wrong { flaw: Flaw, place: usize },

@@ -14,7 +14,7 @@ use ids::Setup;
 const KIND: u64 = 0x4964_6576_6173_4b52;
 
 // How many bytes were read, that the block is too short, or what is wrong with the bytes, and the place of the byte at which it stands.
-#[derive(Drop)]
+#[derive(Clone, Copy)]
 pub enum Loaded {
     Bytes(usize),
     NoRoom,
@@ -22,7 +22,7 @@ pub enum Loaded {
 }
 
 // What a test found.
-#[derive(Drop)]
+#[derive(Clone, Copy)]
 enum Found {
     Fine,
     Wrong { flaw: Flaw, place: usize },

@@ -11,7 +11,7 @@ ghost use Rattle.numerals.specs.Steps.{Counted, stepped};
 use text::Placed;
 
 // What a text says as a number.
-#[derive(Drop)]
+#[derive(Clone, Copy)]
 pub enum Value {
     Number(u64),
     // It is no numeral: a digit is wanted at this place.
@@ -21,7 +21,7 @@ pub enum Value {
 }
 
 // The digits so far: their number, or that it does not fit, or a byte that is no digit.
-#[derive(Drop)]
+#[derive(Clone, Copy)]
 enum Sum {
     Fits(u64),
     Large,

@@ -4,7 +4,7 @@ ghost use Rattle.places.specs.Places.{FitsLow, FitsHigh, SearchUp, SearchDown, S
 ghost use Rattle.std.specs.Prelude.{◌≡◌, ◌+◌, ◌<◌, ◌≤◌, length};
 
 // Where a window goes.
-#[derive(Drop)]
+#[derive(Clone, Copy)]
 pub enum Fit {
     At(u64),
     Nowhere,
@@ -53,7 +53,7 @@ pub fn fits_high(s: u64, e: u64, more: u64, mask: u64) -> Fit
 }
 
 // A range as both its ends.
-#[derive(Drop)]
+#[derive(Clone, Copy)]
 enum Span {
     Free(u64, u64),
     Taken,

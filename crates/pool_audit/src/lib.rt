@@ -11,7 +11,7 @@ use addresses::Answer;
 use ranges::{AllocPolicy, Error, RangeInclusive, RangeMade};
 
 // What is said of a claim.
-#[derive(Drop)]
+#[derive(Clone, Copy)]
 pub enum Verdict {
     // it is the answer
     Right,
@@ -22,7 +22,7 @@ pub enum Verdict {
 }
 
 // Whether the block goes on from a claim, or why not.
-#[derive(Drop)]
+#[derive(Clone, Copy)]
 pub enum Taken {
     Done,
     Hindered(Error),

@@ -6,7 +6,7 @@ use both::{Pair, Triple};
 use ranges::{AllocPolicy, Constraint, Error, PolicyMade};
 
 // A request in numbers, if its policy is one.
-#[derive(Drop)]
+#[derive(Clone, Copy)]
 enum Request {
     Made(Constraint),
     Strange,

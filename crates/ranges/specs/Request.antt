@@ -1,11 +1,10 @@
 -- Requests: a size, an alignment and a policy.
-use Rattle.std.specs.Prelude.{◌≡◌, ℕ, ◌<◌, ◌≤◌, ◌⊎◌}
+use Rattle.std.specs.Prelude.{◌≡◌, ℕ, ◌<◌, ◌⊎◌}
 use Rattle.ranges.specs.Align.{PowerOfTwo, Multiple}
 use Rattle.ranges.specs.declared.Error.{Error}
 use Rattle.ranges.specs.declared.AllocPolicy.{AllocPolicy}
 use Rattle.ranges.specs.declared.AllocPolicy.TheVariants.{FirstMatch, LastMatch, ExactMatch}
 use Rattle.ranges.specs.declared.PolicyMade.{PolicyMade}
-use Rattle.ranges.specs.declared.Constraint.{Constraint}
 use Rattle.ranges.specs.declared.ConstraintMade.{ConstraintMade}
 use Rattle.ranges.specs.declared.ConstraintMade.TheVariants.{Made, Refused}
 

@@ -1,9 +1,8 @@
 -- Worked examples of the definitions, computed.
-use Rattle.std.specs.Prelude.{◌≡◌, ℕ, ◌≤◌, refl}
+use Rattle.std.specs.Prelude.{refl}
 use Rattle.std.proofs.Common.{arith}
 use Rattle.ranges.specs.declared.RangeInclusive.{RangeInclusive}
-use Rattle.ranges.specs.Range.{IsRange, Overlap, Contains, Counts}
-use Rattle.ranges.specs.Align.{Multiple, Greatest}
+use Rattle.ranges.specs.Range.{IsRange, Overlap, Counts}
 
 -- 0x10..0x1f
 abbrev low : RangeInclusive

@@ -1,5 +1,6 @@
 // Closed ranges of addresses, rounding to an alignment, requests for ranges, and the reasons of refusals.
 // Every function is total: it demands nothing of its caller, and what it refuses could not be had.
+#![tactic(auto)]
 ghost use Rattle.std.specs.Prelude.{◌≡◌};
 ghost use Rattle.ranges.specs.Align.{Decides, PowerOfTwo, RoundedDown, RoundedUp};
 ghost use Rattle.ranges.specs.Range.{Overlap, Contains, Counts, MakesRange};
@@ -7,7 +8,7 @@ ghost use Rattle.ranges.specs.Reasons.{number_of};
 ghost use Rattle.ranges.specs.Request.{MakesPolicy, MakesConstraint};
 
 // Why an operation is refused. The order is that of the numbers, which never change.
-#[derive(Drop)]
+#[derive(Clone, Copy)]
 pub enum Error {
     Overflow,
     OutOfRange,
@@ -28,48 +29,48 @@ pub enum Error {
 }
 
 // Both ends belong to the range.
-#[derive(Drop)]
+#[derive(Clone, Copy)]
 pub struct RangeInclusive {
     pub start: u64,
     pub end: u64,
 }
 
-#[derive(Drop)]
+#[derive(Clone, Copy)]
 pub enum RangeMade {
     Made(RangeInclusive),
     Refused(Error),
 }
 
 // Where a range is wanted: as low as it fits, as high as it fits, or at one address.
-#[derive(Drop)]
+#[derive(Clone, Copy)]
 pub enum AllocPolicy {
     FirstMatch,
     LastMatch,
     ExactMatch(u64),
 }
 
-#[derive(Drop)]
+#[derive(Clone, Copy)]
 pub enum PolicyMade {
     Made(AllocPolicy),
     Refused(Error),
 }
 
 // A request for `size` addresses from a multiple of `align` on.
-#[derive(Drop)]
+#[derive(Clone, Copy)]
 pub struct Constraint {
     pub size: u64,
     pub align: u64,
     pub policy: AllocPolicy,
 }
 
-#[derive(Drop)]
+#[derive(Clone, Copy)]
 pub enum ConstraintMade {
     Made(Constraint),
     Refused(Error),
 }
 
 // A rounded address.
-#[derive(Drop)]
+#[derive(Clone, Copy)]
 pub enum Rounded {
     At(u64),
     Refused(Error),

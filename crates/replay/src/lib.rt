@@ -8,7 +8,7 @@ use lines::Line;
 use ranges::{AllocPolicy, RangeInclusive};
 
 // What became of a line on a pool.
-#[derive(Drop)]
+#[derive(Clone, Copy)]
 pub enum PoolOutcome {
     // it is no operation on a pool, or claims what its operation cannot answer
     Unfit,
@@ -17,7 +17,7 @@ pub enum PoolOutcome {
 }
 
 // What became of a line on an interval of ids.
-#[derive(Drop)]
+#[derive(Clone, Copy)]
 pub enum IdOutcome {
     Unfit,
     Answered(ids::Answer),

@@ -12,7 +12,7 @@ use table::Stands;
 const KIND: u64 = 0x4164_6576_6173_4b52;
 
 // How many bytes were written, or why none.
-#[derive(Drop)]
+#[derive(Clone, Copy)]
 pub enum Saved {
     Bytes(usize),
     NoRoom,

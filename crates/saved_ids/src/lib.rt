@@ -10,7 +10,7 @@ use ids::Interval;
 const KIND: u64 = 0x4964_6576_6173_4b52;
 
 // How many bytes were written, or why none.
-#[derive(Drop)]
+#[derive(Clone, Copy)]
 pub enum Saved {
     Bytes(usize),
     NoRoom,
@@ -18,7 +18,7 @@ pub enum Saved {
 }
 
 // The interval, the next new id, and how many ids were granted and are free now.
-#[derive(Drop)]
+#[derive(Clone, Copy)]
 enum Extent {
     Ids {
         low: u32,

@@ -9,7 +9,7 @@ use blocks::{Head, Where};
 use places::Fit;
 
 // Whether a table was made. Unfit: no such pool, or a limit that is not 1 to 4,096. Short: too few words.
-#[derive(Drop)]
+#[derive(Clone, Copy)]
 pub enum Begun {
     Done,
     Unfit,
@@ -17,7 +17,7 @@ pub enum Begun {
 }
 
 // The first address of a window. Unfit: size 0, or an alignment that is no power of two.
-#[derive(Drop)]
+#[derive(Clone, Copy)]
 pub enum Place {
     At(u64),
     Nowhere,
@@ -27,7 +27,7 @@ pub enum Place {
 
 // Whether the table was changed. Absent: what is asked for is not there. Full: the row would be longer than the limit.
 // Unfit: size 0 or tag 0.
-#[derive(Drop)]
+#[derive(Clone, Copy)]
 pub enum Change {
     Done,
     Absent,
@@ -37,7 +37,7 @@ pub enum Change {
 }
 
 // The range that an address lies in: its first and its last address, and its tag, 0 for a free one.
-#[derive(Drop)]
+#[derive(Clone, Copy)]
 pub enum Stands {
     In { start: u64, end: u64, tag: u64 },
     Outside,

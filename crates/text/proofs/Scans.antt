@@ -1,8 +1,8 @@
 -- Laws of scanning: a run of bytes of a class, byte by byte, and that words lie within the text. Assumes nothing.
-use mathlib.Core.Path.{◌≡◌, refl, sym, ap, ◌∙◌, subst}
+use mathlib.Core.Path.{◌≡◌, refl, ap, ◌∙◌}
 use mathlib.Core.Bool.{Bool, true, false, cond}
 use mathlib.Core.List.{List, [], ◌∷◌}
-use Prim.Native.Nat.{ℕ, zero, suc, ◌+◌, ◌-◌, ◌≤◌, ◌<◌, min}
+use Prim.Native.Nat.{ℕ, suc, ◌+◌, ◌≤◌, ◌<◌}
 use native.Mathlib.Nat.{min-eq_left, min-eq_right, le_refl}
 use native.Mathlib.Omega.{arith}
 use native.Mathlib.Numerals.{add-one}

@@ -1,14 +1,14 @@
 -- Laws of texts put into lent bytes. Assumes nothing.
 --     puts_whole     a paste of a whole text
 --     puts_then      two texts, one behind the other
-use mathlib.Core.Path.{◌≡◌, refl, sym, ap, ◌∙◌, subst}
-use mathlib.Core.List.{List, [], ◌∷◌, ◌++◌, append_assoc}
-use Prim.Native.Nat.{ℕ, zero, suc, ◌+◌, ◌-◌, ◌≤◌, ◌<◌}
+use mathlib.Core.Path.{◌≡◌, sym, ap, ◌∙◌, subst}
+use mathlib.Core.List.{List, ◌++◌, append_assoc}
+use Prim.Native.Nat.{ℕ, ◌+◌, ◌-◌, ◌≤◌}
 use native.Mathlib.Omega.{arith}
 use lib.ListN.{length, take, drop, length-append}
-use lib.Seq.{paste, take_all, length-take-le, take-append_seam, drop-append-le, drop_at, take_at, drop-drop}
+use lib.Seq.{paste, take_all, length-take-le, drop_at, take_at, drop-drop}
 use Rattle.text.specs.Stored.{Puts}
-use Rattle.text.specs.declared.Placed.TheVariants.{Next, NoRoom}
+use Rattle.text.specs.declared.Placed.TheVariants.{Next}
 
 pub puts_whole : (old t new : List ℕ) (at i : ℕ) → length t ≡ i → at + i ≤ length old → new ≡ paste old at t i → Puts t at old new (Next (at + i))
 puts_whole old t new at i e h p =

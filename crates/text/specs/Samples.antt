@@ -1,5 +1,5 @@
 -- Worked examples of the definitions, computed: the line `\tshow a-b # c`.
-use Rattle.std.specs.Prelude.{◌≡◌, refl, true, false, List, [], ◌∷◌, ℕ}
+use Rattle.std.specs.Prelude.{◌≡◌, refl, true, List, [], ◌∷◌, ℕ}
 use Rattle.text.specs.Words.{is_blank, is_solid, scan_of, start_of, end_of, no_word, word_is}
 
 abbrev line : List ℕ

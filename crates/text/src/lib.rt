@@ -1,5 +1,6 @@
 // Text in bytes: the words of a line, and a text put into lent bytes.
 // Every function is total: it demands nothing of its caller, and no place is beyond the end.
+#![tactic(auto)]
 ghost use Rattle.std.specs.Prelude.{◌≡◌, ℕ, ◌+◌, ◌≤◌, ◌<◌, length, take, drop, ◌++◌};
 ghost use Rattle.text.specs.Words.{is_in, is_blank, is_solid, is_undotted, is_named, is_from, Scanned, start_of, end_of, no_word, word_is, dotted};
 ghost use Rattle.text.specs.Words.{same as same_of};
@@ -7,7 +8,7 @@ ghost use Rattle.text.specs.Stored.{Puts};
 
 // Kinds of bytes: what separates words; what words are made of, where `#` ends the line; what names
 // are made of; and what stands before the first dot of a word.
-#[derive(Drop)]
+#[derive(Clone, Copy)]
 pub enum Class {
     Blank,
     Solid,
@@ -17,7 +18,7 @@ pub enum Class {
 
 // What putting a text into lent bytes answers: the place behind it, or that it does not fit, when
 // nothing is changed.
-#[derive(Drop)]
+#[derive(Clone, Copy)]
 pub enum Placed {
     Next(usize),
     NoRoom,

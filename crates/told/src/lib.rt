@@ -5,7 +5,7 @@ ghost use Rattle.told.specs.Told.{answer_of, verdict_of, pool_of, id_answer_of, 
 use replay::{IdOutcome, PoolOutcome};
 
 // A number that names a case, and two numbers that it holds.
-#[derive(Drop)]
+#[derive(Clone, Copy)]
 pub struct Case {
     pub kind: u64,
     pub a: u64,

@@ -9,7 +9,7 @@ mod reason;
 use ranges::Error;
 
 // The words that have a meaning of their own; `=>` is the arrow.
-#[derive(Drop)]
+#[derive(Clone, Copy)]
 pub enum Word {
     Pool,
     Ids,

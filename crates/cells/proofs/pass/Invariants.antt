@@ -1,0 +1,13 @@
+-- `cells::pass` meets its contract.
+use native.Mathlib.Omega.{arith}
+use Prim.Native.Nat.{◌-◌, ◌+◌}
+use lib.ListN.{length, get_or}
+use Rattle.cells.proofs.Strides.{Passing, pass_start, pass_step, pass_end}
+use borrow.Author.Rules.{rules}
+use Rattle.cells.proofs.pass.Given as goal
+
+abbrev pub invariant-loop-k : goal.invariant-loop-k
+invariant-loop-k l = Passing (λ p. get_or l.starts p 0) l.a l.to l.by l.k l.last
+
+abbrev pub decreases-loop-k : goal.decreases-loop-k
+decreases-loop-k l = l.to - l.k
