@@ -65,7 +65,7 @@ low_ones (suc k) w h = ⊎_elim even (odd (low_ones k (w / 2) (omega arith))) (e
         ap (λ (x : ℕ). under x (count_trailing_zeros k (n / 2))) d ∙ ap (λ (x : ℕ). suc (count_trailing_zeros k x)) s in
         subst (LowOnes (suc k) w) (sym t) record {
           within = suc-le-suc r.within;
-          ones = λ j. elim j [ zero ↦ (λ l. digit_zero w ∙ omega arith) | suc i ↦ (λ l. digit_suc w i ∙ r.ones i (le_of_suc-le-suc l)) ];
+          ones = λ j. elim j as (λ i. i < suc (count_trailing_zeros k ((2 ^ k - 1) - w / 2)) → digit w i ≡ 1) [ zero ↦ (λ l. digit_zero w ∙ omega arith) | suc i ↦ (λ l. digit_suc w i ∙ r.ones i (le_of_suc-le-suc l)) ];
           then_zero = λ l. digit_suc w (count_trailing_zeros k ((2 ^ k - 1) - w / 2)) ∙ r.then_zero (le_of_suc-le-suc l);
           all = λ e. omega (arith, r.all (suc_inj e));
         }

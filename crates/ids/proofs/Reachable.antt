@@ -9,7 +9,7 @@ use Prim.Native.Nat.{ℕ, zero, suc, ◌+◌, ◌-◌, ◌≤◌, ◌<◌}
 use native.Mathlib.Omega.{arith}
 use Rattle.ids.specs.declared.Answer.TheVariants.{Id}
 use Rattle.ids.specs.State.{State, Free, fresh, grant, release, Allocates, Frees}
-use Rattle.ids.specs.Runs.{Event, event, Runs, Reached, Valid}
+use Rattle.ids.specs.Runs.{after, Event, event, Runs, Reached, Valid}
 use Rattle.ids.specs.Runs.Operation.{Allocate, Release}
 use Rattle.ids.proofs.Tests.{order, is_either, false_true, not_true, same_bool}
 use Rattle.ids.proofs.Validity.{valid_fresh}
@@ -22,7 +22,7 @@ reached_valid s r = valid_runs (fresh s.low s.high) s r.events (valid_fresh s.lo
 runs_more : (s m t : State) (es : List Event) (e : Event) → Runs s es m → Runs m (e ∷ []) t → Runs s (es ++ (e ∷ [])) t
 unfolding Runs
 runs_more s m t [] e r q = subst (λ (x : State). Runs x (e ∷ []) t) r q
-runs_more s m t (d ∷ es) e r q = (r.0, runs_more _ m t es e r.1 q)
+runs_more s m t (d ∷ es) e r q = (r.0, runs_more (after s d.asked d.answer) m t es e r.1 q)
 
 -- states that agree in each part
 same_state : (a b : State) → a.low ≡ b.low → a.high ≡ b.high → a.next ≡ b.next → a.granted ≡ b.granted → a ≡ b

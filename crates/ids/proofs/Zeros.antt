@@ -19,6 +19,7 @@ use Rattle.ids.proofs.States.{digit_false}
 pub count_from : (P Q : ℕ → Type 0) (low b n : ℕ) → ((x : ℕ) → x < low → ¬ Q x) → ((j : ℕ) → j < b → P j → Q (low + j))
     → ((j : ℕ) → j < b → Q (low + j) → P j) → Count P b n → Count Q (low + b) n
 count_from P Q low zero zero f g h none = subst (λ (x : ℕ). Count Q x 0) (let e : 0 + low ≡ low + 0 = omega arith in e) (count_skip Q 0 0 low (λ x l k. f x (omega arith)) none)
+count_from P Q low zero (suc n) f g h c = elim c [ ]
 count_from P Q low (suc b) (suc n) f g h (one p c) =
     rw (add-suc low b) (one (g b (omega arith) p) (count_from P Q low b n f (λ j l. g j (omega arith)) (λ j l. h j (omega arith)) c))
 count_from P Q low (suc b) n f g h (skip p c) =
