@@ -1,6 +1,7 @@
 // The worked run of an address allocator with the free and granted ranges after each step, then the sequences at which
 // vm-allocator 0.1.4 departs from its documentation, then the ends of the numbers and a full table: a line for each answer, held to
 // the stored output.
+#![tactic(auto)]
 use addresses::{Answer, Setup};
 use ranges::{AllocPolicy, RangeInclusive};
 use table::Stands;

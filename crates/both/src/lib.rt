@@ -1,6 +1,7 @@
 // Several things or none: a range of each of two pools, and with them an id. Where the last cannot be had, the earlier ones are given
 // back, so that every block holds just the state from before; the answer says which was refused, and why. The id is asked for last:
 // an id that was granted once leaves a trace (it is no longer "never allocated"), a range that is given back leaves none.
+#![tactic(auto)]
 ghost use Rattle.both.specs.Both.{Asks, Returns, Pairs, Triples};
 
 use addresses::Answer;

@@ -1,6 +1,7 @@
 // What the command's C links against: a line of a script as nine words, a line carried out on a lent block with what became of it in five
 // words, a window as text, and the bar of a picture.
 // Every function is total, as in the crates that it calls.
+#![tactic(auto)]
 ghost use Rattle.std.specs.Prelude.{◌≡◌};
 ghost use Rattle.text.specs.Stored.{Puts};
 ghost use Rattle.script.specs.Grammar.{line_of};

@@ -1,6 +1,7 @@
 // Numbers from an interval, the lowest that is free first. The caller lends the memory: four words (the
 // mark, low, high and next), then a bit for each id, then summaries, so that the lowest free id is found
 // in one step for each level of 64 words. Every public function is total: it has no `requires`.
+#![tactic(auto)]
 ghost use Rattle.std.specs.Prelude.{◌≡◌, max};
 ghost use Rattle.ids.specs.Runs.{Allocate, Release};
 ghost use Rattle.ids.specs.Layout.{LastBit};

@@ -1,5 +1,6 @@
 // Runs of the id allocator, a line for each answer: every answer that there is, on small intervals and at
 // the end of the 32-bit numbers; memory that holds no allocator; and 10,000 ids, which take three levels.
+#![tactic(auto)]
 use ids::{Answer, Setup};
 use ranges::Error;
 

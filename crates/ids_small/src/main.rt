@@ -4,6 +4,7 @@
 // A state of the model is how many ids were ever granted, and which of those are granted now. Each is
 // reached by `allocate` and `free`, and the model leads from the listed states to listed states alone, so
 // that they are all. After the operation each id is given back, which shows the whole state.
+#![tactic(auto)]
 use ids::Answer;
 use std::num::{wrapping_add_u32, wrapping_add_u64, wrapping_sub_u32};
 

@@ -2,4 +2,5 @@
 // have the rest of the archive. A block is lent as a pointer and a number of 64-bit words. Every function is total: any numbers and any contents
 // of the block are answered or refused. A function that changes anything returns a reason, 0 for done, and writes to an out-parameter only
 // then: after a refusal block and out-parameters are as they were.
+#![tactic(auto)]
 pub mod address;

@@ -1,4 +1,5 @@
 // Worked values of ranges, alignment and requests, a line for each answer, held to the stored output.
+#![tactic(auto)]
 use ranges::{
     AllocPolicy, Constraint, ConstraintMade, Error, PolicyMade, RangeInclusive, RangeMade, Rounded,
 };

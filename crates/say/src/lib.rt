@@ -1,4 +1,5 @@
 // Words for answers, for the programs that print them: a text, a number, a window, a reason.
+#![tactic(auto)]
 use ranges::{Error, RangeInclusive};
 
 // Writes a text to standard output. A program that cannot write has nobody to tell.

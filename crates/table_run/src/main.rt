@@ -1,5 +1,6 @@
 // A small table, driven through a run of searches, cuts and melts, with the row after each step; then its limit, a pool at
 // the end of the addresses, and blocks that hold no table.
+#![tactic(auto)]
 use table::{Begun, Change, Place, Stands};
 
 // The ranges of a table in order: first and last address, and the tag.

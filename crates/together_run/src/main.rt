@@ -1,4 +1,5 @@
 // A copy to try things on, and several things or none: a line for each answer, held to the stored output.
+#![tactic(auto)]
 use addresses::Setup;
 use both::{Pair, Triple};
 use copied::Copied;

@@ -1,5 +1,6 @@
 // Two sequences that must never grant the same thing twice: an id that is given back before it was granted, and an exact request inside a
 // granted range. A line for each answer, held to the stored output.
+#![tactic(auto)]
 use addresses::Setup;
 use ranges::AllocPolicy;
 

@@ -1,0 +1,7 @@
+-- `blocks::find_block` meets its contract.
+use Rattle.cells.proofs.Strides.{two_passed}
+use borrow.Author.Rules.{rules}
+use Rattle.blocks.proofs.find_block.Goals as goal
+
+pub returns : goal.returns
+returns c = two_passed _ _ _ 8 c.pass-near.result c.smaller-to.result _ c.pass-near.ensures c.smaller-to.ensures c.pass.ensures

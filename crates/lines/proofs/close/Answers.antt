@@ -1,0 +1,19 @@
+-- `lines::close` meets its contract: each answer by the fields and words that led there.
+use borrow.Author.Rules.{rules}
+use mathlib.Core.Path.{sym, ◌∙◌}
+use Rattle.lines.specs.Lines.{ended_at}
+use Rattle.lines.proofs.close.Goals as goal
+
+pub no_word-requires : goal.no_word-requires
+no_word-requires c = tt
+
+pub returns-then-no_word : goal.returns-then-no_word
+unfolding ended_at
+returns-then-no_word c = rw (sym c.no_word.ensures ∙ c.if-no_word.true)
+
+pub start-requires : goal.start-requires
+start-requires c = tt
+
+pub returns : goal.returns
+unfolding ended_at
+returns c = rw (sym c.no_word.ensures ∙ c.if-no_word.false, sym c.start.ensures)

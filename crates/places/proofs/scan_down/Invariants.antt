@@ -1,0 +1,11 @@
+-- `places::scan_down` meets its contract.
+use Rattle.std.proofs.Common.{◌≡◌, ◌+◌, ◌-◌, ◌<◌, ◌≤◌, length, sym, arith, rules}
+use Rattle.places.proofs.Searches.{NoneFrom, none_from_start, none_from_next, down_found, down_none, down_uneven}
+use Rattle.places.proofs.Skips.{from_more}
+use Rattle.places.proofs.scan_down.Given as goal
+
+abbrev pub invariant-loop-i : goal.invariant-loop-i
+invariant-loop-i l = (l.i ≤ length l.starts) × (length l.starts ≡ length l.tags) × NoneFrom l.starts l.tags l.last l.more l.mask l.i
+
+abbrev pub decreases-loop-i : goal.decreases-loop-i
+decreases-loop-i l = l.i

@@ -1,0 +1,23 @@
+-- `script::operations::free_id` meets its contract: each answer by the fields and words that led there.
+use borrow.Author.Rules.{rules}
+use mathlib.Core.Path.{sym, ◌∙◌}
+use Rattle.script.specs.Grammar.{free_id_at}
+use Rattle.script.proofs.operations.free_id.Goals as goal
+
+pub take_id-requires : goal.take_id-requires
+take_id-requires c = tt
+
+pub take_claim-requires : goal.take_claim-requires
+take_claim-requires c = tt
+
+pub returns-in-Wrong : goal.returns-in-Wrong
+unfolding free_id_at
+returns-in-Wrong c = rw (sym c.take_id.ensures ∙ c.in-Wrong.is)
+
+pub returns-in-Wrong-take_claim : goal.returns-in-Wrong-take_claim
+unfolding free_id_at
+returns-in-Wrong-take_claim c = rw (sym c.take_id.ensures ∙ c.in-Is.is, sym c.take_claim.ensures ∙ c.in-Wrong-take_claim.is)
+
+pub returns-in-Is-take_claim : goal.returns-in-Is-take_claim
+unfolding free_id_at
+returns-in-Is-take_claim c = rw (sym c.take_id.ensures ∙ c.in-Is.is, sym c.take_claim.ensures ∙ c.in-Is-take_claim.is)

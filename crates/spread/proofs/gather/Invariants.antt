@@ -1,0 +1,16 @@
+-- `spread::gather` meets its contract.
+use Prim.Native.Nat.{◌-◌, ◌*◌, ◌≤◌}
+use mathlib.Core.Path.{◌≡◌, refl, sym, ◌∙◌}
+use borrow.Author.Rules.{rules}
+use native.Mathlib.Omega.{arith}
+use lib.ListN.{length}
+use Rattle.blocks.specs.Blocks.{size_at, count_of}
+use Rattle.spread.specs.Spread.{Gathered}
+use Rattle.spread.proofs.Copies.{gathered_none, gathered_more, gathered_next, apart_below}
+use Rattle.spread.proofs.gather.Given as goal
+
+abbrev pub invariant-loop-b : goal.invariant-loop-b
+invariant-loop-b l = (l.b ≤ l.nb) × (l.off ≤ l.room * 32) × (length l.mem ≡ length l.initial.mem) × Gathered l.initial.mem l.mem l.room l.b l.off
+
+abbrev pub decreases-loop-b : goal.decreases-loop-b
+decreases-loop-b l = l.nb - l.b

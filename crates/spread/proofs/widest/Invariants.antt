@@ -1,0 +1,14 @@
+-- `spread::widest` meets its contract.
+use Prim.Native.Nat.{◌-◌, ◌≤◌}
+use mathlib.Core.Path.{◌≡◌}
+use borrow.Author.Rules.{rules}
+use native.Mathlib.Omega.{arith}
+use lib.ListN.{length}
+use Rattle.spread.proofs.Wide.{Spans, spans_none, spans_more, spans_all, within_none}
+use Rattle.spread.proofs.widest.Given as goal
+
+abbrev pub invariant-loop-i : goal.invariant-loop-i
+invariant-loop-i l = (l.i ≤ l.m) × Spans l.starts l.tags l.w l.i
+
+abbrev pub decreases-loop-i : goal.decreases-loop-i
+decreases-loop-i l = l.m - l.i

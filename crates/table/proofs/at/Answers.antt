@@ -1,0 +1,12 @@
+-- `table::at` meets its contract.
+use native.Mathlib.Omega.{arith}
+use Rattle.table.proofs.Cuts.{good_head}
+use Rattle.table.proofs.Asking.{at_no_table}
+use borrow.Author.Rules.{rules}
+use Rattle.table.proofs.at.Goals as goal
+
+pub returns-in_default : goal.returns-in_default
+returns-in_default c = let st = c in let a = st.args in let m = a.mem.now in at_no_table m a.a c.header-h.ensures c.in_default.is
+
+pub at_in-requires : goal.at_in-requires
+at_in-requires c = let st = c in let a = st.args in let m = a.mem.now in good_head m c.header-h.ensures c.in-Good.is
