@@ -1,16 +1,16 @@
 -- Counting the zeros among the digits of a word, and among the bits of a run of words, a word or a bit at a time.
 -- Assumes nothing.
-use mathlib.Core.Path.{◌≡◌, refl, sym, ap, ap₂, ◌∙◌, subst}
+use mathlib.Core.Path.{◌≡◌, sym, ◌∙◌, subst}
 use mathlib.Core.Logic.{⊎_elim}
-use mathlib.Core.Bool.{Bool, true, false, not}
+use mathlib.Core.Bool.{Bool, true, false}
 use mathlib.Core.List.{List}
-use Prim.Native.Nat.{ℕ, zero, suc, ◌+◌, ◌-◌, ◌*◌, ◌/◌, ◌%◌, ◌^◌, ◌≤◌, ◌<◌}
+use Prim.Native.Nat.{ℕ, zero, suc, ◌+◌, ◌-◌, ◌*◌, ◌/◌, ◌%◌, ◌^◌, ◌<◌}
 use native.Mathlib.Nat.{add-zero, eq-zero-or-pos}
 use native.Mathlib.Omega.{arith}
 use lib.Count.{ones, ones_step, ones-le}
 use lib.ListN.{get_or}
 use Rattle.ranges.specs.Align.{Decides}
-use Rattle.ranges.specs.Count.{Count, none, one, skip}
+use Rattle.ranges.specs.Count.{Count, one, skip}
 use Rattle.bits.specs.Bits.{digit, bit}
 use Rattle.bits.proofs.Digits.{digit_zero, digit_suc}
 use Rattle.bits.proofs.Levels.{bit_at, bit_lt}
@@ -51,14 +51,14 @@ word_zeros ws k n h c =
     c)
 
 -- one bit more, that is not 1 or that is
-pub bit_zero : (ws : List ℕ) (i n : ℕ) (b : Bool) → not b ≡ true → Decides b (bit ws i ≡ 1) → Count (λ j. bit ws j ≡ 0) i n → Count (λ j. bit ws j ≡ 0) (i + 1) (n + 1)
+pub bit_zero : (ws : List ℕ) (i n : ℕ) (b : Bool) → b ≡ false → Decides b (bit ws i ≡ 1) → Count (λ j. bit ws j ≡ 0) i n → Count (λ j. bit ws j ≡ 0) (i + 1) (n + 1)
 bit_zero ws i n true e d c = absurd (let z : ◌≡◌ {A = ℕ} 0 1 = cc (e) in omega arith)
 bit_zero ws i n false e d c =
     let z : bit ws i ≡ 0 = ⊎_elim (λ (q : bit ws i ≡ 0). q) (λ (q : 0 < bit ws i). absurd (d (omega (arith, bit_lt ws i)))) (eq-zero-or-pos (bit ws i)) in
     subst (λ (x : ℕ). Count (λ j. bit ws j ≡ 0) x (n + 1)) (let e : suc i ≡ i + 1 = omega arith in e)
     (subst (λ (x : ℕ). Count (λ j. bit ws j ≡ 0) (suc i) x) (let e : suc n ≡ n + 1 = omega arith in e) (one z c))
 
-pub bit_one : (ws : List ℕ) (i n : ℕ) (b : Bool) → not b ≡ false → Decides b (bit ws i ≡ 1) → Count (λ j. bit ws j ≡ 0) i n → Count (λ j. bit ws j ≡ 0) (i + 1) n
+pub bit_one : (ws : List ℕ) (i n : ℕ) (b : Bool) → b ≡ true → Decides b (bit ws i ≡ 1) → Count (λ j. bit ws j ≡ 0) i n → Count (λ j. bit ws j ≡ 0) (i + 1) n
 bit_one ws i n true e d c =
     subst (λ (x : ℕ). Count (λ j. bit ws j ≡ 0) x n) (let e : suc i ≡ i + 1 = omega arith in e) (skip (λ z. omega (arith, d)) c)
 bit_one ws i n false e d c = absurd (let z : ◌≡◌ {A = ℕ} 0 1 = cc (e) in omega arith)

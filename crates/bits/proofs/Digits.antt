@@ -4,9 +4,9 @@
 --     toggle         `w ^ (1 << t)`
 -- Assumes nothing.
 use mathlib.Core.Path.{◌≡◌, refl, sym, ap, ◌∙◌, subst}
-use mathlib.Core.Logic.{◌⊎◌, inl, inr, ⊎_elim}
-use Prim.Native.Nat.{ℕ, zero, suc, ◌+◌, ◌-◌, ◌*◌, ◌/◌, ◌%◌, ◌^◌, ◌≤◌, ◌<◌, zero-le, suc-le-suc}
-use native.Mathlib.Nat.{eq-zero-or-pos, div-one, mod-lt, not-suc-le-zero, le_of_suc-le-suc, suc-ne-zero, suc_inj}
+use mathlib.Core.Logic.{⊎_elim}
+use Prim.Native.Nat.{ℕ, zero, suc, ◌-◌, ◌/◌, ◌%◌, ◌^◌, ◌<◌, zero-le, suc-le-suc}
+use native.Mathlib.Nat.{eq-zero-or-pos, div-one, mod-lt, not-suc-le-zero, le_of_suc-le-suc, suc_inj}
 use native.Mathlib.Numerals.{one-add}
 use native.Mathlib.Omega.{arith}
 use lib.Pow.{shr-shr, pow_pos}

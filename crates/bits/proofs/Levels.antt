@@ -5,15 +5,15 @@
 --     flip_bottom, flip_level, flip_raised  the three ends of `flip`
 --     mid_tail, put_tail                    the part of a slice from a on, lent and given back
 -- Assumes nothing.
-use mathlib.Core.Path.{◌≡◌, refl, sym, ap, ap₂, ◌∙◌, subst}
+use mathlib.Core.Path.{◌≡◌, refl, sym, ap, ◌∙◌, subst}
 use mathlib.Core.Logic.{◌⊎◌, inl, inr, ⊎_elim}
-use mathlib.Core.List.{List, [], ◌++◌, append-nil}
+use mathlib.Core.List.{List, ◌++◌, append-nil}
 use Prim.Native.Nat.{ℕ, zero, suc, ◌+◌, ◌-◌, ◌*◌, ◌/◌, ◌%◌, ◌^◌, ◌≤◌, ◌<◌}
 use native.Mathlib.Nat.{eq-or-lt_of_le, le_of_eq, mod-lt, zero-div}
 use native.Mathlib.Omega.{arith}
 use lib.Arith.{lt_of_le-ne}
 use lib.Pow.{pow_pos}
-use lib.ListN.{length, get_or, set, take, drop, length-set, length-drop, length-append, drop_of_length-le, get_or-append, get_or-eq_default}
+use lib.ListN.{length, get_or, set, take, drop, length-set, length-drop, drop_of_length-le, get_or-append, get_or-eq_default}
 use lib.Seq.{get_or-set_same, get_or-set_other, drop-set-lt, take_all, get_or-take, drop_at, length-take-le}
 use borrow.Rule.Slice.PartMut.{mid_of, put_mid}
 use Rattle.bits.specs.Bits.{digit, bit, LowOnes, Toggled, Summed, Lowest, Flipped}

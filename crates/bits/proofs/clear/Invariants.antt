@@ -1,11 +1,7 @@
 -- `bits::clear` meets its contract. The loop's invariant: the words below k are 0, and there are n words.
 use Prim.Native.Nat.{ℕ, ◌-◌, ◌≤◌, ◌<◌}
-use native.Mathlib.Omega.{arith}
-use mathlib.Core.Path.{◌≡◌, ◌∙◌}
-use borrow.Author.Count.{below_more}
-use borrow.Author.Rules.{rules}
-use lib.ListN.{length, get_or, set, length-set}
-use lib.Seq.{get_or-set_same, get_or-set_other}
+use mathlib.Core.Path.{◌≡◌}
+use lib.ListN.{length, get_or}
 use Rattle.bits.proofs.clear.Given as goal
 
 abbrev pub invariant-loop-k : goal.invariant-loop-k

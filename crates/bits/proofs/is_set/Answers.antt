@@ -3,7 +3,6 @@ use native.Mathlib.Omega.{arith}
 use mathlib.Core.Path.{refl, sym, ◌∙◌}
 use Rattle.bits.specs.Bits.{digit}
 use Rattle.bits.proofs.Levels.{bit_in, bit_past}
-use borrow.Author.Rules.{rules}
 use Rattle.bits.proofs.is_set.Goals as goal
 
 pub returns-then-mem-w : goal.returns-then-mem-w

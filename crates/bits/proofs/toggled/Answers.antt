@@ -1,5 +1,4 @@
 -- `bits::toggled` meets its contract: the shifted one is a power of two that fits, and `xor` with it changes that digit (`toggle`).
-use borrow.Author.Rules.{rules}
 use native.Mathlib.Omega.{arith}
 use mathlib.Core.Path.{◌≡◌, ◌∙◌}
 use Prim.Native.Nat.{◌*◌, ◌%◌, ◌^◌}

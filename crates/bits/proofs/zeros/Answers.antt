@@ -1,16 +1,13 @@
 -- `bits::zeros` meets its contract. The first loop's invariant: n zeros among the bits of the words below k (`word_zeros`); the second's: n among
 -- the bits below i (`bit_zero`, `bit_one`).
-use Prim.Native.Nat.{ℕ, ◌+◌, ◌-◌, ◌*◌, ◌/◌, ◌^◌, ◌≤◌, ◌<◌}
+use Prim.Native.Nat.{ℕ, ◌+◌, ◌*◌, ◌/◌, ◌^◌, ◌≤◌, ◌<◌}
 use native.Mathlib.Omega.{arith}
 use mathlib.Core.Path.{◌≡◌, subst}
-use mathlib.Core.Logic.{⊎_elim}
-use borrow.Author.Rules.{rules}
 use lib.Count.{ones, ones-le}
-use lib.ListN.{length, get_or}
 use Rattle.ranges.specs.Count.{Count, none}
 use Rattle.bits.specs.Bits.{bit}
 use Rattle.bits.proofs.Counts.{word_zeros, bit_zero, bit_one}
-use Rattle.bits.proofs.zeros.Goals.{After-shared_slice_known-in-loop-k-1}
+use Rattle.bits.proofs.zeros.Goals.{then-not-is_set, else-not-is_set}
 use Rattle.bits.proofs.zeros.Goals as goal
 
 pub returns-then-mem-top : goal.returns-then-mem-top
@@ -22,23 +19,18 @@ loop-k-init c = (omega arith, omega arith, none)
 pub bounds-mem-k : goal.bounds-mem-k
 bounds-mem-k c = omega arith
 
--- word k is a word, and has at most 64 ones
-word : (c : After-shared_slice_known-in-loop-k-1 invariant-loop decreases-loop invariant-loop2 decreases-loop2)
-    → get_or c.args.mem.now c.loop-k.k 0 < 2 ^ 64
-word c = omega (arith, c.shared-slice-known2.given c.loop-k.k)
-
-few : (c : After-shared_slice_known-in-loop-k-1 invariant-loop decreases-loop invariant-loop2 decreases-loop2)
-    → ones (get_or c.args.mem.now c.loop-k.k 0) ≤ 64
-few c = ones-le 64 _ (word c)
+-- a word of the slice is a word, and has at most 64 ones
+few : (w : ℕ) → w < 2 ^ 64 → ones w ≤ 64
+few w h = ones-le 64 w h
 
 pub overflow_cast-n : goal.overflow_cast-n
-overflow_cast-n c = omega (arith, few c)
+overflow_cast-n c = omega (arith, few _ (c.type_inv.mem c.loop-k.k).fits)
 
 pub overflow_sub-n : goal.overflow_sub-n
-overflow_sub-n c = few c
+overflow_sub-n c = few _ (c.type_inv.mem c.loop-k.k).fits
 
 pub overflow_add-n : goal.overflow_add-n
-overflow_add-n c = omega (arith, few c)
+overflow_add-n c = omega (arith, few _ (c.type_inv.mem c.loop-k.k).fits)
 
 pub overflow_add-k : goal.overflow_add-k
 overflow_add-k c = omega arith
@@ -49,9 +41,9 @@ loop-k-smaller c = omega arith
 pub loop-k-preserved : goal.loop-k-preserved
 loop-k-preserved c = (
   omega arith,
-  omega (arith, few c),
+  omega (arith, few _ (c.type_inv.mem c.loop-k.k).fits),
   word_zeros c.args.mem.now c.loop-k.k c.loop-k.n
-      (word c) c.loop-k.invariant.2,
+      (c.type_inv.mem c.loop-k.k).fits c.loop-k.invariant.2,
 )
 
 pub overflow_mul-i : goal.overflow_mul-i
@@ -83,10 +75,10 @@ loop-i-preserved c =
     let l = c.loop-i in
     let ws = c.args.mem.now in
     let set = c.is_set in
-    ⊎_elim
-    (λ w. (omega arith, omega arith, rw w.1 (bit_zero ws l.i l.n set.result w.0.true set.ensures l.invariant.2)))
-    (λ w. (omega arith, omega arith, rw w.1 (bit_one ws l.i l.n set.result w.0.false set.ensures l.invariant.2)))
-    c.if-not-is_set.branch
+    elim c.if-not-is_set.branch [
+      | then-not-is_set w ↦ (omega arith, omega arith, rw w.n-is (bit_zero ws l.i l.n set.result w.if-not-is_set.true set.ensures l.invariant.2))
+      | else-not-is_set w ↦ (omega arith, omega arith, rw w.n-is (bit_one ws l.i l.n set.result w.if-not-is_set.false set.ensures l.invariant.2))
+    ]
 
 pub returns : goal.returns
 returns c = λ h.

@@ -1,15 +1,9 @@
 -- `bits::zeros` meets its contract. The first loop's invariant: n zeros among the bits of the words below k (`word_zeros`); the second's: n among
 -- the bits below i (`bit_zero`, `bit_one`).
-use Prim.Native.Nat.{ℕ, ◌+◌, ◌-◌, ◌*◌, ◌/◌, ◌^◌, ◌≤◌, ◌<◌}
-use native.Mathlib.Omega.{arith}
-use mathlib.Core.Path.{◌≡◌, subst}
-use mathlib.Core.Logic.{⊎_elim}
-use borrow.Author.Rules.{rules}
-use lib.Count.{ones, ones-le}
-use lib.ListN.{length, get_or}
-use Rattle.ranges.specs.Count.{Count, none}
+use Prim.Native.Nat.{◌+◌, ◌-◌, ◌*◌, ◌/◌, ◌≤◌}
+use mathlib.Core.Path.{◌≡◌}
+use Rattle.ranges.specs.Count.{Count}
 use Rattle.bits.specs.Bits.{bit}
-use Rattle.bits.proofs.Counts.{word_zeros, bit_zero, bit_one}
 use Rattle.bits.proofs.zeros.Given as goal
 
 abbrev pub invariant-loop-k : goal.invariant-loop-k

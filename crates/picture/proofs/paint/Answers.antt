@@ -12,7 +12,7 @@ use Rattle.picture.proofs.paint.Goals.{In-loop-i}
 use Rattle.picture.proofs.paint.Goals as goal
 
 -- a cell ends in the pool
-reach : (c : In-loop-i invariant-loop decreases-loop) → (let a = c.args in
+reach : (c : In-loop-i) → (let a = c.args in
     c.loop-i.off + Rattle.picture.specs.Bar.size_of ((a.last - a.base + 1) / length a.bar.now) ((a.last - a.base + 1) % length a.bar.now) c.loop-i.i ≤ a.last - a.base + 1)
 reach c =
     let a = c.args in
