@@ -6,13 +6,11 @@
 -- Assumes nothing.
 use Rattle.std.proofs.Common.{◌≡◌, ℕ, ◌+◌, ◌-◌, ◌%◌, ◌^◌, ◌<◌, ◌≤◌, List, [], ◌∷◌, length, sym, refl, ap, ◌∙◌, subst, inl, inr, mod-eq_of_lt, arith}
 use native.Mathlib.Decide.{dec_le}
-use types.Run.{OneOf}
 use Rattle.ranges.specs.declared.AllocPolicy.TheVariants.{ExactMatch}
 use Rattle.table.specs.Row.{Tile, Covers}
 use Rattle.table.specs.Tiles.{Has}
 use Rattle.table.specs.declared.Stands.{Stands}
 use Rattle.table.specs.declared.Stands.TheVariants.{In, Outside, NoTable}
-use Rattle.table.specs.contracts.Stands.{the_type}
 use Rattle.addresses.specs.declared.Answer.{Answer}
 use Rattle.addresses.specs.Meaning.{row_of}
 use Rattle.addresses.specs.Operations.{Pool, next}
@@ -23,10 +21,9 @@ use Rattle.addresses.proofs.RowLaws.{covers_row}
 use Rattle.addresses.proofs.StepLaws.{has_in}
 use Rattle.copied.specs.Steps.{Placed, Carried, Took, Carries}
 
-pub nowhere : (m n : List ℕ) (a r : ℕ) (x : Stands) → Shows m a x → OneOf (1 ∷ 2 ∷ []) (denote.Enum.Declared.tag_of the_type x) → Carries m n a r n
+pub nowhere : (m n : List ℕ) (a r : ℕ) (x : Stands) → Shows m a x → ((s e g : ℕ) → x ≡ In s e g → ⊥) → Carries m n a r n
 unfolding Shows
-nowhere m n a r (In s e g) c (inl k) = absurd (omega arith)
-nowhere m n a r (In s e g) c (inr k) = absurd (omega arith)
+nowhere m n a r (In s e g) c k = absurd (k s e g refl)
 nowhere m n a r Outside c k = inr (refl, c)
 nowhere m n a r NoTable c k = inr (refl, λ p h l u. c p h)
 

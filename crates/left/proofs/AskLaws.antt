@@ -8,12 +8,10 @@ use mathlib.Core.Path.{◌≡◌, refl, subst}
 use mathlib.Core.Logic.{inl, inr}
 use mathlib.Core.List.{List, [], ◌∷◌}
 use native.Mathlib.Omega.{arith}
-use types.Run.{OneOf}
 use Rattle.ranges.specs.declared.Error.{Error}
 use Rattle.table.specs.declared.Stands.{Stands}
 use Rattle.table.specs.declared.Stands.TheVariants.{In, Outside, NoTable}
 use Rattle.table.specs.Tiles.{Has}
-use Rattle.table.specs.contracts.Stands.{the_type}
 use Rattle.addresses.specs.Meaning.{row_of}
 use Rattle.addresses.specs.Operations.{Pool}
 use Rattle.addresses.specs.Held.{Holds}
@@ -33,10 +31,9 @@ pub ask_starts : (m : List ℕ) (a : ℕ) → Says m (λ p. p.state.base) a → 
 ask_starts m a b p h = rw (b p h) (walk_starts p h.valid)
 
 -- an address of the pool stands in a range
-pub ask_nowhere : (m : List ℕ) (a free largest : ℕ) → Walks m a free largest → (x : Stands) → Shows m a x → OneOf (1 ∷ 2 ∷ []) (denote.Enum.Declared.tag_of the_type x) → Tells m (Refused Error.NoState)
+pub ask_nowhere : (m : List ℕ) (a free largest : ℕ) → Walks m a free largest → (x : Stands) → Shows m a x → ((s e g : ℕ) → x ≡ In s e g → ⊥) → Tells m (Refused Error.NoState)
 unfolding Shows Tells
-ask_nowhere m a free largest w (In s e g) c (inl k) = absurd (omega arith)
-ask_nowhere m a free largest w (In s e g) c (inr k) = absurd (omega arith)
+ask_nowhere m a free largest w (In s e g) c k = absurd (k s e g refl)
 ask_nowhere m a free largest w Outside c k = (refl, λ p h. c p h (w p h).above (w p h).below)
 ask_nowhere m a free largest w NoTable c k = (refl, c)
 

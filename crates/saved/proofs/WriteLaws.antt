@@ -5,7 +5,6 @@
 --     row_some                     a pool has a range
 --     written                      the ranges and the frame around them are the pool
 use Rattle.std.proofs.Common.{◌≡◌, ℕ, zero, suc, ◌+◌, ◌-◌, ◌*◌, ◌%◌, ◌^◌, ◌<◌, ◌≤◌, ◌⊎◌, List, [], ◌∷◌, ◌++◌, length, get_or, sym, refl, ap, ◌∙◌, subst, inl, inr, ⊎_elim, append_assoc, append-nil, mod-eq_of_lt, arith, length-append}
-use types.Run.{OneOf}
 use Rattle.frame.specs.Frame.{Frame, Seals}
 use Rattle.frame.proofs.FrameLaws.{frame_same}
 use Rattle.octets.specs.Octets.{word, Puts}
@@ -14,7 +13,6 @@ use Rattle.table.specs.Row.{Tile, past, Covers}
 use Rattle.table.specs.Tiles.{Has}
 use Rattle.table.specs.declared.Stands.{Stands}
 use Rattle.table.specs.declared.Stands.TheVariants.{In, Outside, NoTable}
-use Rattle.table.specs.contracts.Stands.{the_type}
 use Rattle.addresses.specs.Meaning.{row_of}
 use Rattle.addresses.specs.Operations.{Pool}
 use Rattle.addresses.specs.Runs.{Valid}
@@ -34,10 +32,9 @@ use Rattle.saved.proofs.TileLaws.{tiles_same, tiles_more}
 
 -- ---- one range
 
-pub nowhere : (m bs : List ℕ) (a i r : ℕ) (x : Stands) → Shows m a x → OneOf (1 ∷ 2 ∷ []) (denote.Enum.Declared.tag_of the_type x) → Carries m bs a i r bs
+pub nowhere : (m bs : List ℕ) (a i r : ℕ) (x : Stands) → Shows m a x → ((s e g : ℕ) → x ≡ In s e g → ⊥) → Carries m bs a i r bs
 unfolding Shows
-nowhere m bs a i r (In s e g) c (inl k) = absurd (omega arith)
-nowhere m bs a i r (In s e g) c (inr k) = absurd (omega arith)
+nowhere m bs a i r (In s e g) c k = absurd (k s e g refl)
 nowhere m bs a i r Outside c k = record { long = refl; front = λ j h. refl; behind = λ j h. refl; took = inr c }
 nowhere m bs a i r NoTable c k = record { long = refl; front = λ j h. refl; behind = λ j h. refl; took = inr (λ p h l u. c p h) }
 

@@ -19,10 +19,10 @@ pub exact-requires : goal.exact-requires
 exact-requires c = let st = c in subst (Proper st.args.size st.args.align) c.in-ExactMatch.is (request_proper st.args.size st.args.align st.args.policy _ c.new-made.result c.new-made.ensures c.in_default.is)
 
 pub returns-in-FirstMatch : goal.returns-in-FirstMatch
-returns-in-FirstMatch c = let st = c in subst (λ (w : AllocPolicy). Performs st.args.mem.now (asking st.args.size st.args.align w) c.first.result c.first.last.0) (sym c.in-FirstMatch.is) c.first.ensures
+returns-in-FirstMatch c = let st = c in subst (λ (w : AllocPolicy). Performs st.args.mem.now (asking st.args.size st.args.align w) c.first.result c.first.new.mem) (sym c.in-FirstMatch.is) c.first.ensures
 
 pub returns-in-LastMatch : goal.returns-in-LastMatch
-returns-in-LastMatch c = let st = c in subst (λ (w : AllocPolicy). Performs st.args.mem.now (asking st.args.size st.args.align w) c.last.result c.last.last.0) (sym c.in-LastMatch.is) c.last.ensures
+returns-in-LastMatch c = let st = c in subst (λ (w : AllocPolicy). Performs st.args.mem.now (asking st.args.size st.args.align w) c.last.result c.last.new.mem) (sym c.in-LastMatch.is) c.last.ensures
 
 pub returns-in-ExactMatch : goal.returns-in-ExactMatch
-returns-in-ExactMatch c = let st = c in subst (λ (w : AllocPolicy). Performs st.args.mem.now (asking st.args.size st.args.align w) c.exact.result c.exact.last.0) (sym c.in-ExactMatch.is) c.exact.ensures
+returns-in-ExactMatch c = let st = c in subst (λ (w : AllocPolicy). Performs st.args.mem.now (asking st.args.size st.args.align w) c.exact.result c.exact.new.mem) (sym c.in-ExactMatch.is) c.exact.ensures

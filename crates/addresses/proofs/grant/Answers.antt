@@ -4,7 +4,7 @@ use Rattle.std.proofs.Common.{rules}
 use Rattle.addresses.proofs.grant.Goals as goal
 
 pub returns-in-Done : goal.returns-in-Done
-returns-in-Done c = let st = c in grant_done st.args.mem.now c.cut-done.new.mem st.args.a st.args.size c.cut-done.result st.requires c.cut-done.ensures c.wrapping_add_u64.result c.wrapping_add_u64.ensures c.in-Done.is
+returns-in-Done c = let st = c in grant_done st.args.mem.now c.cut-done.new.mem st.args.a st.args.size c.cut-done.result st.requires c.cut-done.ensures c.wrapping_add_u64.result c.wrapping_add_u64.ensures.value c.in-Done.is
 
 pub returns-in-Absent : goal.returns-in-Absent
 returns-in-Absent c = let st = c in grant_absent st.args.mem.now c.cut-done.new.mem st.args.a st.args.size c.cut-done.result st.requires c.cut-done.ensures c.in-Absent.is

@@ -9,9 +9,9 @@ returns-in-Refused c = pair_one _ _ _ _ _ _ c.ask-first.ensures _ c.in-Refused.i
 pub returns-in-Granted-second : goal.returns-in-Granted-second
 returns-in-Granted-second c =
     let f = c in
-    pair_both _ _ _ _ _ _ f.ask.ensures _ f.first2.given.1 _ _ c.ask-second.ensures _ c.in-Granted-second.is
+    pair_both _ _ _ _ _ _ f.ask-first.ensures _ f.in-Granted.is _ _ c.ask-second.ensures _ c.in-Granted-second.is
 
 pub returns-in-Refused-second : goal.returns-in-Refused-second
 returns-in-Refused-second c =
     let f = c in
-    pair_two _ _ _ _ _ _ f.ask.ensures _ f.first2.given.1 _ _ c.ask-second.ensures _ c.in-Refused-second.is _ c.give_back.ensures
+    pair_two _ _ _ _ _ _ f.ask-first.ensures _ f.in-Granted.is _ _ c.ask-second.ensures _ c.in-Refused-second.is _ c.give_back.ensures

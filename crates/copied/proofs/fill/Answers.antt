@@ -17,7 +17,7 @@ loop-i-preserved c =
     let l = c.loop-i in
     let k = c.carry-a in (
       omega arith,
-      k.auto.1.0 ∙ l.invariant.1,
+      k.auto.dst ∙ l.invariant.1,
       λ q h. carries_some _ _ _ _ _ (l.invariant.2 q h).0 (l.invariant.2 q h).1 k.ensures,
       λ p limit h b n r e. filled_step p limit _ _ _ _ h (omega (arith, h.valid.room)) (l.invariant.3 p limit h b n r e) (omega (arith, n)) _ _ k.ensures,
     )

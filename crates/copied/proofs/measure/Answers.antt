@@ -13,14 +13,14 @@ pub returns-then-size-eq0 : goal.returns-then-size-eq0
 returns-then-size-eq0 c = λ p h.
     let b = c.base-base.ensures p h in
     let t = c.end-end.ensures p h in
-    let z = c.wrapping_add_u64-size.ensures ∙ mod-eq_of_lt (omega (arith, b, t, h.valid.within)) in
+    let z = c.wrapping_add_u64-size.ensures.value ∙ mod-eq_of_lt (omega (arith, b, t, h.valid.within)) in
     omega (arith, z, c.if-size-eq0.true)
 
 pub returns : goal.returns
 returns c =
     let b = c.base-base in
     let t = c.end-end in
-    let e : c.wrapping_add_u64-size.result ≡ _ = whole b.result t.result _ (omega arith) (omega arith) c.wrapping_add_u64-size.ensures c.if-size-eq0.false in
+    let e : c.wrapping_add_u64-size.result ≡ _ = whole b.result t.result _ (omega arith) (omega arith) c.wrapping_add_u64-size.ensures.value c.if-size-eq0.false in
     record {
       some = omega (arith, c.if-size-eq0.false);
       below = omega (arith, e);

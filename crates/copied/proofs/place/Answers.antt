@@ -6,4 +6,4 @@ use Rattle.copied.proofs.place.Goals as goal
 pub returns : goal.returns
 returns c =
     let b = c in
-    asked _ _ _ _ _ _ b.wrapping_add_u64-more.ensures b.allocate.ensures
+    asked _ _ _ _ _ _ b.wrapping_add_u64-more.ensures.value b.allocate.ensures

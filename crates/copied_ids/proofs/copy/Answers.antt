@@ -16,4 +16,4 @@ pub returns : goal.returns
 returns c =
     let d = c in
     let b = d in
-    copy_done _ _ _ b.bounds-interval.ensures _ _ _ _ b.in-Of.is d.words_needed-n.ensures d.if-dst-n.false _ c.put.auto.1.0 c.put.ensures
+    copy_done _ _ _ b.bounds-interval.ensures _ _ _ _ b.in-Of.is d.words_needed-n.ensures d.if-dst-n.false _ c.put.auto.dst c.put.ensures

@@ -9,10 +9,10 @@ use Rattle.id_audit.proofs.Claimed.{verdict, granted_right, granted_wrong}
 use Rattle.id_audit.proofs.allocate.Goals as goal
 
 pub returns-then-same : goal.returns-then-same
-returns-then-same c = granted_right c.args.mem.now c.allocate.last.0 c.lowest-answer.result c.args.claim c.allocate.result c.lowest-answer.ensures (subst (λ b. Decides b (c.lowest-answer.result ≡ c.args.claim)) c.if-same.true c.same.ensures) c.allocate.ensures
+returns-then-same c = granted_right c.args.mem.now c.allocate.new.mem c.lowest-answer.result c.args.claim c.allocate.result c.lowest-answer.ensures (subst (λ b. Decides b (c.lowest-answer.result ≡ c.args.claim)) c.if-same.true c.same.ensures) c.allocate.ensures
 
 pub returns-in-Done : goal.returns-in-Done
-returns-in-Done c = subst (λ (t : Taken). Audits c.args.mem.now Allocate c.args.claim (verdict c.lowest-answer.result t) c.follow_grant-taken.last.0) c.in-Done.is (granted_wrong c.args.mem.now c.follow_grant-taken.last.0 c.lowest-answer.result c.args.claim c.follow_grant-taken.result c.lowest-answer.ensures (subst (λ b. Decides b (c.lowest-answer.result ≡ c.args.claim)) c.if-same.false c.same.ensures) c.follow_grant-taken.ensures)
+returns-in-Done c = subst (λ (t : Taken). Audits c.args.mem.now Allocate c.args.claim (verdict c.lowest-answer.result t) c.follow_grant-taken.new.mem) c.in-Done.is (granted_wrong c.args.mem.now c.follow_grant-taken.new.mem c.lowest-answer.result c.args.claim c.follow_grant-taken.result c.lowest-answer.ensures (subst (λ b. Decides b (c.lowest-answer.result ≡ c.args.claim)) c.if-same.false c.same.ensures) c.follow_grant-taken.ensures)
 
 pub returns-in-Hindered : goal.returns-in-Hindered
-returns-in-Hindered c = subst (λ (t : Taken). Audits c.args.mem.now Allocate c.args.claim (verdict c.lowest-answer.result t) c.follow_grant-taken.last.0) c.true.given.1 (granted_wrong c.args.mem.now c.follow_grant-taken.last.0 c.lowest-answer.result c.args.claim c.follow_grant-taken.result c.lowest-answer.ensures (subst (λ b. Decides b (c.lowest-answer.result ≡ c.args.claim)) c.if-same.false c.same.ensures) c.follow_grant-taken.ensures)
+returns-in-Hindered c = subst (λ (t : Taken). Audits c.args.mem.now Allocate c.args.claim (verdict c.lowest-answer.result t) c.follow_grant-taken.new.mem) c.true.given.1 (granted_wrong c.args.mem.now c.follow_grant-taken.new.mem c.lowest-answer.result c.args.claim c.follow_grant-taken.result c.lowest-answer.ensures (subst (λ b. Decides b (c.lowest-answer.result ≡ c.args.claim)) c.if-same.false c.same.ensures) c.follow_grant-taken.ensures)

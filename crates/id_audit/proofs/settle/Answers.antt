@@ -11,7 +11,7 @@ pub returns-then-same : goal.returns-then-same
 returns-then-same c = settle_right c.args.mem.now c.args.answer c.args.claim (subst (λ b. Decides b (c.args.answer ≡ c.args.claim)) c.if-same.true c.same.ensures)
 
 pub returns-in-Done : goal.returns-in-Done
-returns-in-Done c = subst (λ (t : Taken). Settles c.args.mem.now c.args.answer c.args.claim (verdict c.args.answer t) c.follow_release-taken.last.0) c.in-Done.is (settle_wrong c.args.mem.now c.undo.last.0 c.follow_release-taken.last.0 c.args.answer c.args.claim c.follow_release-taken.result (subst (λ b. Decides b (c.args.answer ≡ c.args.claim)) c.if-same.false c.same.ensures) c.undo.ensures c.follow_release-taken.ensures)
+returns-in-Done c = subst (λ (t : Taken). Settles c.args.mem.now c.args.answer c.args.claim (verdict c.args.answer t) c.follow_release-taken.new.mem) c.in-Done.is (settle_wrong c.args.mem.now c.undo.new.mem c.follow_release-taken.new.mem c.args.answer c.args.claim c.follow_release-taken.result (subst (λ b. Decides b (c.args.answer ≡ c.args.claim)) c.if-same.false c.same.ensures) c.undo.ensures c.follow_release-taken.ensures)
 
 pub returns-in-Hindered : goal.returns-in-Hindered
-returns-in-Hindered c = subst (λ (t : Taken). Settles c.args.mem.now c.args.answer c.args.claim (verdict c.args.answer t) c.follow_release-taken.last.0) c.true.given.1 (settle_wrong c.args.mem.now c.undo.last.0 c.follow_release-taken.last.0 c.args.answer c.args.claim c.follow_release-taken.result (subst (λ b. Decides b (c.args.answer ≡ c.args.claim)) c.if-same.false c.same.ensures) c.undo.ensures c.follow_release-taken.ensures)
+returns-in-Hindered c = subst (λ (t : Taken). Settles c.args.mem.now c.args.answer c.args.claim (verdict c.args.answer t) c.follow_release-taken.new.mem) c.true.given.1 (settle_wrong c.args.mem.now c.undo.new.mem c.follow_release-taken.new.mem c.args.answer c.args.claim c.follow_release-taken.result (subst (λ b. Decides b (c.args.answer ≡ c.args.claim)) c.if-same.false c.same.ensures) c.undo.ensures c.follow_release-taken.ensures)

@@ -79,7 +79,7 @@ unfolding Holds
 returns c =
     let a = c.args in
     let ws : List ℕ = a.mem.now in
-    let up : List ℕ = c.flip.last.0 in
+    let up : List ℕ = c.flip.new.mem in
     record {
       kept = tt;
       right = λ s held.

@@ -10,7 +10,7 @@ pub loop-end-init : goal.loop-end-init
 loop-end-init c = ask_starts _ _ c.base-a.ensures
 
 pub returns-in_default : goal.returns-in_default
-returns-in_default c = ask_nowhere _ _ _ _ c.loop-end.invariant _ c.at-stands.ensures c.in_default.keys2
+returns-in_default c = ask_nowhere _ _ _ _ c.loop-end.invariant _ c.at-stands.ensures c.in_default.not-In
 
 pub returns-in_default-passed : goal.returns-in_default-passed
 returns-in_default-passed c =

@@ -49,7 +49,7 @@ returns-then-get-base c =
     (λ s. c.if-get-base.true (c.get.ensures (omega (arith, f.long)) ∙ s.first), inl (refl, λ e. c.if-get-base.true (c.get.ensures (omega (arith, f.long)) ∙ e ∙ f.first)))
 
 pub tiles-requires : goal.tiles-requires
-tiles-requires c = let f = c.requires in (omega (arith, f.long, c.if-words-ne0.false), (sym f.second, f.count ∙ omega (arith, c.if-words-ne0.false)))
+tiles-requires c = let f = c.requires in record { n_in_bounds = omega (arith, f.long, c.if-words-ne0.false); last_value = sym f.second; bs_value = f.count ∙ omega (arith, c.if-words-ne0.false) }
 
 pub returns : goal.returns
 returns c =

@@ -18,7 +18,7 @@ loop-i-preserved c =
     let l = c.loop-i in
     let k = c.place in (
       omega arith,
-      k.auto.1.0 ∙ l.invariant.1,
+      k.auto.mem ∙ l.invariant.1,
       λ p v t n e h. filled_step _ p _ _ l.i _ _ v n e (omega arith) k.ensures (l.invariant.2 p v t n e h),
     )
 

@@ -12,7 +12,7 @@ returns-in-Wrong c =
 
 pub remake-requires : goal.remake-requires
 remake-requires c =
-    (opens_good _ _ _ _ _ _ _ c.read-opened.ensures c.in-Good.is, tests_fine _ _ _ c.examine-found.ensures c.in_default.is)
+    record { frame = opens_good _ _ _ _ _ _ _ c.read-opened.ensures c.in-Good.is; sensible = tests_fine _ _ _ c.examine-found.ensures c.in_default.is }
 
 pub returns-in-Bad : goal.returns-in-Bad
 returns-in-Bad c = wrong_frame _ _ _ _ (opens_bad _ _ _ _ _ c.read-opened.ensures c.in-Bad.is)

@@ -15,5 +15,5 @@ returns c = record {
       let e = c.next_start-next in
       let d = c.wrapping_sub_u64-size in
       let a = c.allocate in
-      (d.result, e.result, omega arith, e.ensures, subst (λ (x : ℕ). (d.result + x) % 2 ^ 64 ≡ e.result) (s.ensures (omega arith)) d.ensures, a.result, subst (λ (x : ℕ). Performs c.args.mem.now (asking d.result 1 (ExactMatch x)) a.result a.last.0) (s.ensures (omega arith)) a.ensures);
+      (d.result, e.result, omega arith, e.ensures, subst (λ (x : ℕ). (d.result + x) % 2 ^ 64 ≡ e.result) (s.ensures (omega arith)) d.ensures.value, a.result, subst (λ (x : ℕ). Performs c.args.mem.now (asking d.result 1 (ExactMatch x)) a.result a.new.mem) (s.ensures (omega arith)) a.ensures);
 }

@@ -8,13 +8,13 @@ pub returns-then-tag-gt1 : goal.returns-then-tag-gt1
 unfolding Tests Misfit
 returns-then-tag-gt1 c =
     let b = c in
-    (λ g. omega (arith, g.state, c.get-tag.ensures (omega arith)), (b.args.k, b.requires.1.0, refl, omega (arith, c.get-tag.ensures (omega arith), c.if-tag-gt1.true)))
+    (λ g. omega (arith, g.state, c.get-tag.ensures (omega arith)), (b.args.k, b.requires.range_at, refl, omega (arith, c.get-tag.ensures (omega arith), c.if-tag-gt1.true)))
 
 pub returns-then-last-start : goal.returns-then-last-start
 unfolding Tests Misfit
 returns-then-last-start c =
     let b = c in
-    (λ g. omega (arith, g.inside, c.get-start.ensures (omega arith)), (b.args.k, b.requires.1.0, refl, omega (arith, c.get-start.ensures (omega arith), c.if-last-start.true, b.requires.1.1)))
+    (λ g. omega (arith, g.inside, c.get-start.ensures (omega arith)), (b.args.k, b.requires.range_at, refl, omega (arith, c.get-start.ensures (omega arith), c.if-last-start.true, b.requires.last_value)))
 
 pub returns-then-more-eq0 : goal.returns-then-more-eq0
 unfolding Tests
@@ -24,7 +24,7 @@ pub returns-then-get-start : goal.returns-then-get-start
 unfolding Tests Misfit
 returns-then-get-start c =
     let b = c in
-    (λ g. omega (arith, (g.pair (omega arith)).rising, c.get.ensures (omega arith), c.get-start.ensures (omega arith)), inr (b.args.k, b.requires.1.0, refl, omega (arith, c.get.ensures (omega arith), c.get-start.ensures (omega arith), c.if-get-start.true)))
+    (λ g. omega (arith, (g.pair (omega arith)).rising, c.get.ensures (omega arith), c.get-start.ensures (omega arith)), inr (b.args.k, b.requires.range_at, refl, omega (arith, c.get.ensures (omega arith), c.get-start.ensures (omega arith), c.if-get-start.true)))
 
 pub returns-then-tag-ne0 : goal.returns-then-tag-ne0
 unfolding Tests
@@ -34,7 +34,7 @@ pub returns-then-get-eq0 : goal.returns-then-get-eq0
 unfolding Tests Misfit
 returns-then-get-eq0 c =
     let b = c in
-    (λ g. (g.pair (omega arith)).apart (sym (c.get-tag.ensures (omega arith)) ∙ c.if-tag-ne0.false) (sym (c.get-2.ensures (omega arith)) ∙ c.if-get-eq0.true), (b.args.k, b.requires.1.0, refl, sym (c.get-tag.ensures (omega arith)) ∙ c.if-tag-ne0.false, sym (c.get-2.ensures (omega arith)) ∙ c.if-get-eq0.true))
+    (λ g. (g.pair (omega arith)).apart (sym (c.get-tag.ensures (omega arith)) ∙ c.if-tag-ne0.false) (sym (c.get-2.ensures (omega arith)) ∙ c.if-get-eq0.true), (b.args.k, b.requires.range_at, refl, sym (c.get-tag.ensures (omega arith)) ∙ c.if-tag-ne0.false, sym (c.get-2.ensures (omega arith)) ∙ c.if-get-eq0.true))
 
 pub returns : goal.returns
 unfolding Tests

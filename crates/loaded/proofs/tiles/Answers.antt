@@ -11,7 +11,7 @@ pub loop-i-init : goal.loop-i-init
 loop-i-init c = (omega arith, λ j more l e. absurd (omega arith))
 
 pub tile-found-requires : goal.tile-found-requires
-tile-found-requires c = let l = c.loop-i in let b = c.requires in (omega (arith, b.0), ((l.i, refl, omega (arith, b.1.1)), b.1.0))
+tile-found-requires c = let l = c.loop-i in let b = c.requires in record { more_in_bounds = omega (arith, b.n_in_bounds); range_at = (l.i, refl, omega (arith, b.bs_value)); last_value = b.last_value }
 
 pub returns-in-Wrong : goal.returns-in-Wrong
 unfolding Tests

@@ -60,14 +60,14 @@ module _ (k : After-tag_of-behind) where
 pub put-requires : goal.put-requires
 put-requires c =
     let u = c in
-    gone u u.shrink.last.0 u.shrink.ensures
+    gone u u.shrink.new.mem u.shrink.ensures
 
 pub raise-requires : goal.raise-requires
 raise-requires c =
     let v = c in
     let u = v in
     let k = u in
-    ready k true false v.put.last.0 (both k u.shrink.last.0 v.put.last.0 u.shrink.ensures v.put.ensures)
+    ready k true false v.put.new.mem (both k u.shrink.new.mem v.put.new.mem u.shrink.ensures v.put.ensures)
 
 pub returns-then-before-ne0 : goal.returns-then-before-ne0
 returns-then-before-ne0 c =
@@ -77,12 +77,12 @@ returns-then-before-ne0 c =
     let z = u in
     let e = z in
     let k = e in
-    done k true false v.put.last.0 (both k u.shrink.last.0 v.put.last.0 u.shrink.ensures v.put.ensures) r.raise.last.0 e.last_of-e.result r.reach.result e.if-behind-eq0.true z.if2.true e.last_of-e.ensures r.reach.ensures r.raise.ensures
+    done k true false v.put.new.mem (both k u.shrink.new.mem v.put.new.mem u.shrink.ensures v.put.ensures) r.raise.new.mem e.last_of-e.result r.reach.result e.if-behind-eq0.true z.if2.true e.last_of-e.ensures r.reach.ensures r.raise.ensures
 
 pub raise-requires-then-behind-eq0 : goal.raise-requires-then-behind-eq0
 raise-requires-then-behind-eq0 c =
     let u = c in
-    ready u true true u.shrink-then-behind-eq0.last.0 u.shrink-then-behind-eq0.ensures
+    ready u true true u.shrink-then-behind-eq0.new.mem u.shrink-then-behind-eq0.ensures
 
 pub returns-then-behind-eq0 : goal.returns-then-behind-eq0
 returns-then-behind-eq0 c =
@@ -90,12 +90,12 @@ returns-then-behind-eq0 c =
     let u = r in
     let z = u in
     let e = z in
-    done e true true u.shrink-then-behind-eq0.last.0 u.shrink-then-behind-eq0.ensures r.raise-then-behind-eq0.last.0 e.last_of-e.result r.reach-then-behind-eq0.result e.if-behind-eq0.true z.if2.false e.last_of-e.ensures r.reach-then-behind-eq0.ensures r.raise-then-behind-eq0.ensures
+    done e true true u.shrink-then-behind-eq0.new.mem u.shrink-then-behind-eq0.ensures r.raise-then-behind-eq0.new.mem e.last_of-e.result r.reach-then-behind-eq0.result e.if-behind-eq0.true z.if2.false e.last_of-e.ensures r.reach-then-behind-eq0.ensures r.raise-then-behind-eq0.ensures
 
 pub raise-requires-then-before-ne0-2 : goal.raise-requires-then-before-ne0-2
 raise-requires-then-before-ne0-2 c =
     let u = c in
-    ready u false false u.put-then-before-ne0-2.last.0 u.put-then-before-ne0-2.ensures
+    ready u false false u.put-then-before-ne0-2.new.mem u.put-then-before-ne0-2.ensures
 
 pub returns-then-before-ne0-2 : goal.returns-then-before-ne0-2
 returns-then-before-ne0-2 c =
@@ -103,12 +103,12 @@ returns-then-before-ne0-2 c =
     let u = r in
     let z = u in
     let e = z in
-    done e false false u.put-then-before-ne0-2.last.0 u.put-then-before-ne0-2.ensures r.raise-then-before-ne0-2.last.0 e.last_of-e-2.result r.reach-then-before-ne0-2.result e.if-behind-eq0.false z.if3.true e.last_of-e-2.ensures r.reach-then-before-ne0-2.ensures r.raise-then-before-ne0-2.ensures
+    done e false false u.put-then-before-ne0-2.new.mem u.put-then-before-ne0-2.ensures r.raise-then-before-ne0-2.new.mem e.last_of-e-2.result r.reach-then-before-ne0-2.result e.if-behind-eq0.false z.if3.true e.last_of-e-2.ensures r.reach-then-before-ne0-2.ensures r.raise-then-before-ne0-2.ensures
 
 pub raise-requires-2 : goal.raise-requires-2
 raise-requires-2 c =
     let u = c in
-    ready u false true u.shrink-2.last.0 u.shrink-2.ensures
+    ready u false true u.shrink-2.new.mem u.shrink-2.ensures
 
 pub returns : goal.returns
 returns c =
@@ -116,4 +116,4 @@ returns c =
     let u = r in
     let z = u in
     let e = z in
-    done e false true u.shrink-2.last.0 u.shrink-2.ensures r.raise-2.last.0 e.last_of-e-2.result r.reach-2.result e.if-behind-eq0.false z.if3.false e.last_of-e-2.ensures r.reach-2.ensures r.raise-2.ensures
+    done e false true u.shrink-2.new.mem u.shrink-2.ensures r.raise-2.new.mem e.last_of-e-2.result r.reach-2.result e.if-behind-eq0.false z.if3.false e.last_of-e-2.ensures r.reach-2.ensures r.raise-2.ensures

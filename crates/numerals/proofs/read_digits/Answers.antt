@@ -3,8 +3,6 @@ use borrow.Author.Rules.{rules}
 use mathlib.Core.Path.{◌≡◌, refl, sym, ap, ◌∙◌}
 use mathlib.Core.Logic.{inl, inr}
 use mathlib.Core.List.{[], ◌∷◌}
-use types.Run.{OneOf}
-use Rattle.numerals.specs.contracts.Sum.{the_type}
 use Rattle.numerals.specs.declared.Sum.{Sum}
 use Rattle.numerals.specs.declared.Sum.TheVariants.{Fits, Large, Stopped}
 use Prim.Native.Nat.{ℕ, suc, ◌+◌, ◌-◌, ◌≤◌, ◌<◌}
@@ -13,13 +11,6 @@ use lib.ListN.{length, drop}
 use Rattle.numerals.specs.Numeral.{digits, fitted}
 use Rattle.numerals.proofs.Reading.{Reading, reading_none, reading_stop, reading_start, reading_turn, reading_stopped, reading_fits, reading_large, reading_not}
 use Rattle.numerals.proofs.read_digits.Goals as goal
-
--- a sum whose variant is number 0 or 1 is not stopped
-not_stopped : (r : Sum) → OneOf (0 ∷ 1 ∷ []) (denote.Enum.Declared.tag_of the_type r) → r ≡ Stopped → ⊥
-not_stopped (Fits n) h e = let z : ◌≡◌ {A = ℕ} 0 1 = cc in omega arith
-not_stopped Large h e = let z : ◌≡◌ {A = ℕ} 0 1 = cc in omega arith
-not_stopped Stopped (inl h) e = omega arith
-not_stopped Stopped (inr h) e = omega arith
 
 pub returns-then-s-from : goal.returns-then-s-from
 returns-then-s-from c = reading_none _ _ _ (omega arith)
@@ -34,7 +25,7 @@ pub returns-in-Stopped : goal.returns-in-Stopped
 returns-in-Stopped c = reading_stopped _ _ _ _ _ (omega arith) (omega arith) c.loop-i.invariant _ c.step-next.ensures c.in-Stopped.is
 
 pub loop-i-preserved : goal.loop-i-preserved
-loop-i-preserved c = reading_turn _ _ _ _ _ (omega arith) (omega arith) c.loop-i.invariant _ c.step-next.ensures (not_stopped _ c.in_default.keys2)
+loop-i-preserved c = reading_turn _ _ _ _ _ (omega arith) (omega arith) c.loop-i.invariant _ c.step-next.ensures c.in_default.not-Stopped
 
 pub returns-in-Fits : goal.returns-in-Fits
 returns-in-Fits c = reading_fits _ _ _ _ _ c.loop-i-test.false c.loop-i.invariant _ c.in-Fits.is

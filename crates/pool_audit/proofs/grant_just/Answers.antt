@@ -20,4 +20,4 @@ pub overflow_add-end : goal.overflow_add-end
 overflow_add-end c = record { fits = (pair_range c.args.start c.args.end _ c.new-made.result c.new-made.ensures c.in_default.is).1 }
 
 pub returns : goal.returns
-returns c = λ p h. inr ((pair_range c.args.start c.args.end _ c.new-made.result c.new-made.ensures c.in_default.is), exact_called c.args.mem.now c.allocate.last.0 p _ 1 c.args.start c.allocate.result h (proper_just c.args.start c.args.end) c.allocate.ensures, (c.allocate.ensures.right p h).1)
+returns c = λ p h. inr ((pair_range c.args.start c.args.end _ c.new-made.result c.new-made.ensures c.in_default.is), exact_called c.args.mem.now c.allocate.new.mem p _ 1 c.args.start c.allocate.result h (proper_just c.args.start c.args.end) c.allocate.ensures, (c.allocate.ensures.right p h).1)

@@ -55,4 +55,4 @@ shape_of-mem c = let kept = c.flip.kept.0 in rw same_len_mid (simp length-set)
 
 pub returns : goal.returns
 unfolding Holds
-returns c = let ws : List ℕ = c.args.mem.now in let up : List ℕ = c.flip.last.0 in let x = c.larger.result in record { kept = tt; right = λ s held. let h : Laid _ s = held in let w : Within s c.args.id = (omega (arith, h.low), omega (arith, h.high)) in let z = not_true (s.granted c.args.id) (λ g. subst (λ (b : Bool). Decides b (Within s c.args.id × (s.granted c.args.id ≡ true))) c.if-is_set.false (bit_decides c.args.mem.now s h c.is_set.result _ c.args.id h.low w c.is_set.ensures) (w, g)) in ((refl, (w, z)), subst (λ (v : List ℕ). Holds v (grant s c.args.id)) (sym (put_tail 4 (set ws 3 x) up)) (taking ws s h _ _ c.args.id x up (last-is (goal.at.returns c).In-Bit s h) w (ap (λ (y : ℕ). c.args.id - y) h.low) z c.flip.ensures c.larger.ensures)) }
+returns c = let ws : List ℕ = c.args.mem.now in let up : List ℕ = c.flip.new.mem in let x = c.larger.result in record { kept = tt; right = λ s held. let h : Laid _ s = held in let w : Within s c.args.id = (omega (arith, h.low), omega (arith, h.high)) in let z = not_true (s.granted c.args.id) (λ g. subst (λ (b : Bool). Decides b (Within s c.args.id × (s.granted c.args.id ≡ true))) c.if-is_set.false (bit_decides c.args.mem.now s h c.is_set.result _ c.args.id h.low w c.is_set.ensures) (w, g)) in ((refl, (w, z)), subst (λ (v : List ℕ). Holds v (grant s c.args.id)) (sym (put_tail 4 (set ws 3 x) up)) (taking ws s h _ _ c.args.id x up (last-is (goal.at.returns c).In-Bit s h) w (ap (λ (y : ℕ). c.args.id - y) h.low) z c.flip.ensures c.larger.ensures)) }

@@ -14,22 +14,22 @@ pub returns-in-All : goal.returns-in-All
 returns-in-All c =
     let two = c in
     let one = two in
-    offered_three _ _ _ _ two.read2.ensures _ one.read.ensures _ _ one.one.given.1 two.two.given.1 _ _ _ _ _ _ _ _ _ c.three-answer.ensures c.in-All.is refl
+    offered_three _ _ _ _ two.read-two.ensures _ one.read-one.ensures _ _ one.in-Made.is two.in-Made-two.is _ _ _ _ _ _ _ _ _ c.three-answer.ensures c.in-All.is refl
 
 pub returns-in-First : goal.returns-in-First
 returns-in-First c =
     let two = c in
     let one = two in
-    offered_three _ _ _ _ two.read2.ensures _ one.read.ensures _ _ one.one.given.1 two.two.given.1 _ _ _ _ _ _ _ _ _ c.three-answer.ensures c.in-First.is c.number-in-First.ensures
+    offered_three _ _ _ _ two.read-two.ensures _ one.read-one.ensures _ _ one.in-Made.is two.in-Made-two.is _ _ _ _ _ _ _ _ _ c.three-answer.ensures c.in-First.is c.number-in-First.ensures
 
 pub returns-in-Second : goal.returns-in-Second
 returns-in-Second c =
     let two = c in
     let one = two in
-    offered_three _ _ _ _ two.read2.ensures _ one.read.ensures _ _ one.one.given.1 two.two.given.1 _ _ _ _ _ _ _ _ _ c.three-answer.ensures c.in-Second.is c.number-in-Second.ensures
+    offered_three _ _ _ _ two.read-two.ensures _ one.read-one.ensures _ _ one.in-Made.is two.in-Made-two.is _ _ _ _ _ _ _ _ _ c.three-answer.ensures c.in-Second.is c.number-in-Second.ensures
 
 pub returns-in-Third : goal.returns-in-Third
 returns-in-Third c =
     let two = c in
     let one = two in
-    offered_three _ _ _ _ two.read2.ensures _ one.read.ensures _ _ one.one.given.1 two.two.given.1 _ _ _ _ _ _ _ _ _ c.three-answer.ensures c.in-Third.is c.number-in-Third.ensures
+    offered_three _ _ _ _ two.read-two.ensures _ one.read-one.ensures _ _ one.in-Made.is two.in-Made-two.is _ _ _ _ _ _ _ _ _ c.three-answer.ensures c.in-Third.is c.number-in-Third.ensures

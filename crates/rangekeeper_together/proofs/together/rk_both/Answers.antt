@@ -14,16 +14,16 @@ pub returns-in-Both : goal.returns-in-Both
 returns-in-Both c =
     let two = c in
     let one = two in
-    offered _ _ _ _ two.read2.ensures _ one.read.ensures _ _ one.one.given.1 two.two.given.1 _ _ _ _ _ _ _ c.two-answer.ensures c.in-Both.is refl
+    offered _ _ _ _ two.read-two.ensures _ one.read-one.ensures _ _ one.in-Made.is two.in-Made-two.is _ _ _ _ _ _ _ c.two-answer.ensures c.in-Both.is refl
 
 pub returns-in-First : goal.returns-in-First
 returns-in-First c =
     let two = c in
     let one = two in
-    offered _ _ _ _ two.read2.ensures _ one.read.ensures _ _ one.one.given.1 two.two.given.1 _ _ _ _ _ _ _ c.two-answer.ensures c.in-First.is c.number-in-First.ensures
+    offered _ _ _ _ two.read-two.ensures _ one.read-one.ensures _ _ one.in-Made.is two.in-Made-two.is _ _ _ _ _ _ _ c.two-answer.ensures c.in-First.is c.number-in-First.ensures
 
 pub returns-in-Second : goal.returns-in-Second
 returns-in-Second c =
     let two = c in
     let one = two in
-    offered _ _ _ _ two.read2.ensures _ one.read.ensures _ _ one.one.given.1 two.two.given.1 _ _ _ _ _ _ _ c.two-answer.ensures c.in-Second.is c.number-in-Second.ensures
+    offered _ _ _ _ two.read-two.ensures _ one.read-one.ensures _ _ one.in-Made.is two.in-Made-two.is _ _ _ _ _ _ _ c.two-answer.ensures c.in-Second.is c.number-in-Second.ensures
