@@ -25,14 +25,14 @@ pub scan-m-requires : goal.scan-m-requires
 scan-m-requires c = tt
 
 pub overflow_add-m : goal.overflow_add-m
-overflow_add-m c = record { fits = omega (arith, c.scan-m.ensures.within, c.well-formed) }
+overflow_add-m c = record { fits = omega (arith, c.scan-m.ensures.within, c.well_formed) }
 
 pub returns-then-e-m : goal.returns-then-e-m
 unfolding window_at
 returns-then-e-m c = rw (sym c.end-e.ensures, sym c.start-a.ensures, sym c.scan-m.ensures.is, lt-ltb _ _ c.if-e-m.true)
 
 pub overflow_add-m-2 : goal.overflow_add-m-2
-overflow_add-m-2 c = record { fits = omega (arith, c.scan-m.ensures.within, c.well-formed) }
+overflow_add-m-2 c = record { fits = omega (arith, c.scan-m.ensures.within, c.well_formed) }
 
 pub bounds-s-m : goal.bounds-s-m
 bounds-s-m c = omega (arith, c.scan-m.ensures.within, c.scan-m.ensures.behind (scan-start (goal.at.bounds-s-m c).After-scan-m), word_within c.args.s.now c.args.at, c.start-a.ensures, c.end-e.ensures)
@@ -45,7 +45,7 @@ pub number_in-requires : goal.number_in-requires
 number_in-requires c = omega (arith, c.scan-m.ensures.within, c.scan-m.ensures.behind (scan-start (goal.at.number_in-requires c).After-scan-m), word_within c.args.s.now c.args.at, c.start-a.ensures, c.end-e.ensures)
 
 pub overflow_add-m-in-Is : goal.overflow_add-m-in-Is
-overflow_add-m-in-Is c = record { fits = omega (arith, c.scan-m.ensures.within, c.well-formed) }
+overflow_add-m-in-Is c = record { fits = omega (arith, c.scan-m.ensures.within, c.well_formed) }
 
 pub number_in-requires-in-Is : goal.number_in-requires-in-Is
 number_in-requires-in-Is c = omega (arith, c.if-e-m.false, c.scan-m.ensures.within, c.scan-m.ensures.behind (scan-start (goal.at.number_in-requires-in-Is c).After-scan-m), word_within c.args.s.now c.args.at, c.start-a.ensures, c.end-e.ensures)

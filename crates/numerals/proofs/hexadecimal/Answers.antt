@@ -16,7 +16,7 @@ pub bounds-out-at-2 : goal.bounds-out-at-2
 bounds-out-at-2 c = simp length-set (omega arith)
 
 pub fill-requires : goal.fill-requires
-fill-requires c = (omega arith, (omega arith, (c.width-k.ensures, simp length-set (omega arith))))
+fill-requires c = record { le_base = omega arith; base_bound = omega arith; counted = c.width-k.ensures; k_in_bounds = simp length-set (omega arith) }
 
 pub shape_of-out : goal.shape_of-out
 shape_of-out c = c.fill.auto.out ∙ simp length-set

@@ -11,8 +11,8 @@ use Rattle.numerals.proofs.step.Goals.{Else-base-d}
 use Rattle.numerals.proofs.step.Goals as goal
 
 -- past the tests the byte is a digit, which is added
-on-digit : (c : Else-base-d) → (let a = c.args in stepped a.sum a.base a.c ≡ added a.sum a.base c.digit-d.result)
-on-digit c =
+on_digit : (c : Else-base-d) → (let a = c.args in stepped a.sum a.base a.c ≡ added a.sum a.base c.digit-d.result)
+on_digit c =
     let a = c.args in
     stepped_digit a.sum a.base a.c _ c.if-c-eq95.false c.digit-d.ensures c.if-base-d.false
 
@@ -43,23 +43,23 @@ returns-then-n-d c =
     let d = c in
     let a = d.args in
     let k = room c.in-Fits.n a.base d.digit-d.result (omega arith) (omega arith) c.if-n-d.true in
-    sym (on-digit d ∙ ap (λ (s : Sum). added s a.base d.digit-d.result) c.in-Fits.is ∙ sum_fits _ k)
+    sym (on_digit (goal.at.returns-then-n-d c).Else-base-d ∙ ap (λ (s : Sum). added s a.base d.digit-d.result) c.in-Fits.is ∙ sum_fits _ k)
 
 pub returns-else-n-d : goal.returns-else-n-d
 returns-else-n-d c =
     let d = c in
     let a = d.args in
     let k = no_room c.in-Fits.n a.base d.digit-d.result (omega arith) c.if-n-d.false in
-    sym (on-digit d ∙ ap (λ (s : Sum). added s a.base d.digit-d.result) c.in-Fits.is ∙ sum_large _ k)
+    sym (on_digit (goal.at.returns-else-n-d c).Else-base-d ∙ ap (λ (s : Sum). added s a.base d.digit-d.result) c.in-Fits.is ∙ sum_large _ k)
 
 pub returns-in-Large : goal.returns-in-Large
 returns-in-Large c =
     let d = c in
     let a = d.args in
-    sym (on-digit d ∙ ap (λ (s : Sum). added s a.base d.digit-d.result) c.in-Large.is)
+    sym (on_digit (goal.at.returns-in-Large c).Else-base-d ∙ ap (λ (s : Sum). added s a.base d.digit-d.result) c.in-Large.is)
 
 pub returns-in-Stopped : goal.returns-in-Stopped
 returns-in-Stopped c =
     let d = c in
     let a = d.args in
-    sym (on-digit d ∙ ap (λ (s : Sum). added s a.base d.digit-d.result) c.in-Stopped.is)
+    sym (on_digit (goal.at.returns-in-Stopped c).Else-base-d ∙ ap (λ (s : Sum). added s a.base d.digit-d.result) c.in-Stopped.is)

@@ -5,18 +5,14 @@ use Prim.Native.Nat.{ℕ, suc, ◌+◌, ◌-◌, ◌/◌, ◌%◌, ◌^◌, ◌�
 use native.Mathlib.Nat.{div-le_self}
 use native.Mathlib.Omega.{arith}
 use lib.ListN.{length, length-set}
-use Rattle.picture.specs.Bar.{IsPool, before}
+use Rattle.picture.specs.Bar.{IsPool, before, size_of}
 use Rattle.picture.proofs.Cells.{size_more, before_suc, before_most}
 use Rattle.picture.proofs.Painting.{Painting, painting_start, painting_step, painting_end, painted_nowhere, painted_nothing, painted_empty}
-use Rattle.picture.proofs.paint.Goals.{In-loop-i}
 use Rattle.picture.proofs.paint.Goals as goal
 
 -- a cell ends in the pool
-reach : (c : In-loop-i) → (let a = c.args in
-    c.loop-i.off + Rattle.picture.specs.Bar.size_of ((a.last - a.base + 1) / length a.bar.now) ((a.last - a.base + 1) % length a.bar.now) c.loop-i.i ≤ a.last - a.base + 1)
-reach c =
-    let a = c.args in
-    omega (arith, before_suc (a.last - a.base + 1) (length a.bar.now) c.loop-i.i, c.loop-i.invariant.count, before_most (a.last - a.base + 1) (length a.bar.now) (suc c.loop-i.i) (omega (arith, c.loop-i-test.true, c.loop-i.invariant.long)))
+reach : (total cells i off : ℕ) → off ≡ before total cells i → suc i ≤ cells → off + size_of (total / cells) (total % cells) i ≤ total
+reach total cells i off e h = omega (arith, before_suc total cells i, before_most total cells (suc i) h)
 
 pub returns-then-last-base : goal.returns-then-last-base
 returns-then-last-base c = painted_nowhere _ _ _ _ _ _ (λ p. omega (arith, p.0, c.if-last-base.true))
@@ -36,7 +32,7 @@ loop-i-init c = painting_start _ _ _ _ _ _
 pub cell_size-size-requires : goal.cell_size-size-requires
 cell_size-size-requires c =
     let a = c.args in
-    λ h. omega (arith, reach c, size_more ((a.last - a.base + 1) / length a.bar.now) ((a.last - a.base + 1) % length a.bar.now) c.loop-i.i h, c.if-last-base-2.false, c.ranges)
+    λ h. omega (arith, reach (a.last - a.base + 1) (length a.bar.now) c.loop-i.i c.loop-i.off c.loop-i.invariant.count (omega (arith, c.loop-i-test.true, c.loop-i.invariant.long)), size_more ((a.last - a.base + 1) / length a.bar.now) ((a.last - a.base + 1) % length a.bar.now) c.loop-i.i h, c.if-last-base-2.false, c.ranges)
 
 pub bounds-bar-i : goal.bounds-bar-i
 bounds-bar-i c = omega (arith, c.loop-i.invariant.long)
@@ -44,17 +40,17 @@ bounds-bar-i c = omega (arith, c.loop-i.invariant.long)
 pub touch-requires : goal.touch-requires
 touch-requires c =
     let a = c.args in
-    let f = reach c in
-    (omega (arith, f, c.cell_size-size.ensures, c.ranges), c.if-end-start.false)
+    let f = reach (a.last - a.base + 1) (length a.bar.now) c.loop-i.i c.loop-i.off c.loop-i.invariant.count (omega (arith, c.loop-i-test.true, c.loop-i.invariant.long)) in
+    record { size_bound = omega (arith, f, c.cell_size-size.ensures, c.ranges); start_le_end = c.if-end-start.false }
 
 pub bounds-bar-i-in-loop-i : goal.bounds-bar-i-in-loop-i
 bounds-bar-i-in-loop-i c = omega (arith, c.loop-i.invariant.long)
 
 pub overflow_add-off : goal.overflow_add-off
-overflow_add-off c = let f = reach c in record { fits = omega (arith, f, c.cell_size-size.ensures) }
+overflow_add-off c = let a = c.args in let f = reach (a.last - a.base + 1) (length a.bar.now) c.loop-i.i c.loop-i.off c.loop-i.invariant.count (omega (arith, c.loop-i-test.true, c.loop-i.invariant.long)) in record { fits = omega (arith, f, c.cell_size-size.ensures) }
 
 pub overflow_add-i : goal.overflow_add-i
-overflow_add-i c = record { fits = omega (arith, c.loop-i.invariant.long, c.well-formed) }
+overflow_add-i c = record { fits = omega (arith, c.loop-i.invariant.long, c.well_formed) }
 
 pub loop-i-smaller : goal.loop-i-smaller
 loop-i-smaller c = omega (arith, c.loop-i.invariant.long)

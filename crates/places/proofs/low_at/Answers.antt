@@ -11,4 +11,4 @@ returns-in_default c =
 pub returns : goal.returns
 returns c =
     let a = c.args in
-    free_low a.starts.now a.tags.now a.last a.more a.mask a.i c.Fits-low.result c.span_at-range.ensures c.in-Free.is c.Fits-low.ensures
+    free_low a.starts.now a.tags.now a.last a.more a.mask a.i c.fits_low.result c.span_at-range.ensures c.in-Free.is c.fits_low.ensures
