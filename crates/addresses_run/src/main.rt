@@ -2,255 +2,261 @@
 // vm-allocator 0.1.4 departs from its documentation, then the ends of the numbers and a full table: a line for each answer, held to
 // the stored output.
 #![tactic(auto)]
+
 use addresses::{Answer, Setup};
 use ranges::{AllocPolicy, RangeInclusive};
+use std::io;
 use table::Stands;
 
 const M: u64 = u64::MAX;
 
 // The range that a lies in, a granted one in brackets; answers the address past it.
-fn tile(mem: &[u64], a: u64) -> u64 {
+fn tile(rt: &impl Print, mem: &[u64], a: u64) -> io::Result<u64> {
     let stands = addresses::at(mem, a);
     match stands {
         Stands::In { start, end, tag } => {
             if tag == 0 {
-                say::text(b"  ");
-                say::window(RangeInclusive { start, end });
+                say::text(rt, b"  ")?;
+                say::window(rt, RangeInclusive { start, end })?;
             } else {
-                say::text(b"  [");
-                say::window(RangeInclusive { start, end });
-                say::text(b"]");
+                say::text(rt, b"  [")?;
+                say::window(rt, RangeInclusive { start, end })?;
+                say::text(rt, b"]")?;
             }
-            std::num::wrapping_add_u64(end, 1)
+            Ok(std::num::wrapping_add_u64(end, 1))
         }
-        Stands::Outside => a,
-        Stands::NoTable => a,
+        Stands::Outside => Ok(a),
+        Stands::NoTable => Ok(a),
     }
 }
 
 // The ranges of the pool in order.
-fn row(mem: &[u64]) {
+fn row(rt: &impl Print, mem: &[u64]) -> io::Result<()> {
     let n = addresses::count(mem);
     let mut a = addresses::base(mem);
     let mut i = 0;
     while i < n {
-        a = tile(mem, a);
+        a = tile(rt, mem, a)?;
         i += 1;
     }
-    say::text(b"\n");
+    say::text(rt, b"\n")
 }
 
-fn pool(mem: &mut [u64], base: u64, size: u64, limit: usize) {
-    say::text(b"pool ");
-    say::hex(base);
-    say::text(b" size ");
-    say::hex(size);
-    say::text(b": ");
+fn pool(rt: &impl Print, mem: &mut [u64], base: u64, size: u64, limit: usize) -> io::Result<()> {
+    say::text(rt, b"pool ")?;
+    say::hex(rt, base)?;
+    say::text(rt, b" size ")?;
+    say::hex(rt, size)?;
+    say::text(rt, b": ")?;
     match addresses::new(mem, base, size, limit) {
-        Setup::Ready => {
-            say::text(b"ready\n");
-        }
+        Setup::Ready => say::text(rt, b"ready\n"),
         Setup::Unfit(e) => {
-            say::reason(e);
-            say::text(b"\n");
+            say::reason(rt, e)?;
+            say::text(rt, b"\n")
         }
     }
 }
 
-fn answer(x: Answer) {
+fn answer(rt: &impl Print, x: Answer) -> io::Result<()> {
     match x {
-        Answer::Granted(r) => say::window(r),
+        Answer::Granted(r) => say::window(rt, r)?,
         Answer::Freed(r) => {
-            say::window(r);
-            say::text(b" freed");
+            say::window(rt, r)?;
+            say::text(rt, b" freed")?;
         }
-        Answer::Refused(e) => say::reason(e),
+        Answer::Refused(e) => say::reason(rt, e)?,
     }
-    say::text(b"\n");
+    say::text(rt, b"\n")
 }
 
-fn ask(mem: &mut [u64], size: u64, align: u64, policy: AllocPolicy) {
-    say::text(b"allocate ");
-    say::hex(size);
-    say::text(b" align ");
-    say::hex(align);
+fn ask(
+    rt: &impl Print,
+    mem: &mut [u64],
+    size: u64,
+    align: u64,
+    policy: AllocPolicy,
+) -> io::Result<()> {
+    say::text(rt, b"allocate ")?;
+    say::hex(rt, size)?;
+    say::text(rt, b" align ")?;
+    say::hex(rt, align)?;
     match policy {
-        AllocPolicy::FirstMatch => say::text(b" first: "),
-        AllocPolicy::LastMatch => say::text(b" last: "),
+        AllocPolicy::FirstMatch => say::text(rt, b" first: ")?,
+        AllocPolicy::LastMatch => say::text(rt, b" last: ")?,
         AllocPolicy::ExactMatch(a) => {
-            say::text(b" exact ");
-            say::hex(a);
-            say::text(b": ");
+            say::text(rt, b" exact ")?;
+            say::hex(rt, a)?;
+            say::text(rt, b": ")?;
         }
     }
-    answer(addresses::allocate(mem, size, align, policy));
-    row(mem);
+    answer(rt, addresses::allocate(mem, size, align, policy))?;
+    row(rt, mem)
 }
 
-fn first(mem: &mut [u64], size: u64, align: u64) {
-    ask(mem, size, align, AllocPolicy::FirstMatch);
+fn first(rt: &impl Print, mem: &mut [u64], size: u64, align: u64) -> io::Result<()> {
+    ask(rt, mem, size, align, AllocPolicy::FirstMatch)
 }
 
-fn last(mem: &mut [u64], size: u64, align: u64) {
-    ask(mem, size, align, AllocPolicy::LastMatch);
+fn last(rt: &impl Print, mem: &mut [u64], size: u64, align: u64) -> io::Result<()> {
+    ask(rt, mem, size, align, AllocPolicy::LastMatch)
 }
 
-fn exact(mem: &mut [u64], size: u64, align: u64, a: u64) {
-    ask(mem, size, align, AllocPolicy::ExactMatch(a));
+fn exact(rt: &impl Print, mem: &mut [u64], size: u64, align: u64, a: u64) -> io::Result<()> {
+    ask(rt, mem, size, align, AllocPolicy::ExactMatch(a))
 }
 
-fn back(mem: &mut [u64], start: u64, end: u64) {
-    say::text(b"free ");
-    say::window(RangeInclusive { start, end });
-    say::text(b": ");
-    answer(addresses::free(mem, start, end));
-    row(mem);
+fn back(rt: &impl Print, mem: &mut [u64], start: u64, end: u64) -> io::Result<()> {
+    say::text(rt, b"free ")?;
+    say::window(rt, RangeInclusive { start, end })?;
+    say::text(rt, b": ")?;
+    answer(rt, addresses::free(mem, start, end))?;
+    row(rt, mem)
 }
 
-fn worked() {
+fn worked(rt: &impl Print) -> io::Result<()> {
     let mut mem = [0u64; 329];
-    pool(&mut mem, 0x1000, 0x10000, 16);
-    first(&mut mem, 0x800, 0x100);
-    first(&mut mem, 0x400, 0x1000);
-    last(&mut mem, 0x400, 0x100);
-    exact(&mut mem, 0x100, 0x100, 0x1800);
-    exact(&mut mem, 0x100, 0x100, 0x1850);
-    back(&mut mem, 0x1000, 0x17fe);
-    back(&mut mem, 0x1000, 0x17ff);
-    back(&mut mem, 0x1800, 0x18ff);
-    back(&mut mem, 0x2000, 0x23ff);
-    back(&mut mem, 0x10c00, 0x10fff);
+    pool(rt, &mut mem, 0x1000, 0x10000, 16)?;
+    first(rt, &mut mem, 0x800, 0x100)?;
+    first(rt, &mut mem, 0x400, 0x1000)?;
+    last(rt, &mut mem, 0x400, 0x100)?;
+    exact(rt, &mut mem, 0x100, 0x100, 0x1800)?;
+    exact(rt, &mut mem, 0x100, 0x100, 0x1850)?;
+    back(rt, &mut mem, 0x1000, 0x17fe)?;
+    back(rt, &mut mem, 0x1000, 0x17ff)?;
+    back(rt, &mut mem, 0x1800, 0x18ff)?;
+    back(rt, &mut mem, 0x2000, 0x23ff)?;
+    back(rt, &mut mem, 0x10c00, 0x10fff)
 }
 
-fn inside_a_granted_range() {
+fn inside_a_granted_range(rt: &impl Print) -> io::Result<()> {
     let mut mem = [0u64; 329];
-    pool(&mut mem, 0, 0x1000, 16);
-    first(&mut mem, 0x1000, 1);
-    exact(&mut mem, 0x10, 1, 0x100);
-    exact(&mut mem, 0x1000, 1, 0);
+    pool(rt, &mut mem, 0, 0x1000, 16)?;
+    first(rt, &mut mem, 0x1000, 1)?;
+    exact(rt, &mut mem, 0x10, 1, 0x100)?;
+    exact(rt, &mut mem, 0x1000, 1, 0)
 }
 
-fn the_whole_from_zero() {
+fn the_whole_from_zero(rt: &impl Print) -> io::Result<()> {
     let mut mem = [0u64; 329];
-    pool(&mut mem, 0, 0x1000, 16);
-    last(&mut mem, 0x1000, 1);
+    pool(rt, &mut mem, 0, 0x1000, 16)?;
+    last(rt, &mut mem, 0x1000, 1)
 }
 
-fn freed_from_one() {
+fn freed_from_one(rt: &impl Print) -> io::Result<()> {
     let mut mem = [0u64; 329];
-    pool(&mut mem, 1, 0x1000, 16);
-    first(&mut mem, 0x10, 1);
-    back(&mut mem, 1, 0x10);
+    pool(rt, &mut mem, 1, 0x1000, 16)?;
+    first(rt, &mut mem, 0x10, 1)?;
+    back(rt, &mut mem, 1, 0x10)
 }
 
-fn freed_before_the_end() {
+fn freed_before_the_end(rt: &impl Print) -> io::Result<()> {
     let mut mem = [0u64; 329];
-    pool(&mut mem, M - 0xfff, 0x1000, 16);
-    exact(&mut mem, 0x10, 1, M - 0x10);
-    back(&mut mem, M - 0x10, M - 1);
+    pool(rt, &mut mem, M - 0xfff, 0x1000, 16)?;
+    exact(rt, &mut mem, 0x10, 1, M - 0x10)?;
+    back(rt, &mut mem, M - 0x10, M - 1)
 }
 
-fn melted_with_one_address() {
+fn melted_with_one_address(rt: &impl Print) -> io::Result<()> {
     let mut mem = [0u64; 329];
-    pool(&mut mem, 0x10, 0x10, 16);
-    exact(&mut mem, 1, 1, 0x10);
-    exact(&mut mem, 4, 1, 0x11);
-    back(&mut mem, 0x10, 0x10);
-    back(&mut mem, 0x11, 0x14);
-    first(&mut mem, 0x10, 1);
+    pool(rt, &mut mem, 0x10, 0x10, 16)?;
+    exact(rt, &mut mem, 1, 1, 0x10)?;
+    exact(rt, &mut mem, 4, 1, 0x11)?;
+    back(rt, &mut mem, 0x10, 0x10)?;
+    back(rt, &mut mem, 0x11, 0x14)?;
+    first(rt, &mut mem, 0x10, 1)
 }
 
-fn exact_at_the_last_address() {
+fn exact_at_the_last_address(rt: &impl Print) -> io::Result<()> {
     let mut mem = [0u64; 329];
-    pool(&mut mem, 0x10, 0x10, 16);
-    exact(&mut mem, 1, 1, 0x1f);
+    pool(rt, &mut mem, 0x10, 0x10, 16)?;
+    exact(rt, &mut mem, 1, 1, 0x1f)
 }
 
-fn granted_to_the_end() {
+fn granted_to_the_end(rt: &impl Print) -> io::Result<()> {
     let mut mem = [0u64; 329];
-    pool(&mut mem, M - 0xfff, 0x1000, 16);
-    last(&mut mem, 0x10, 1);
-    pool(&mut mem, M - 0xfff, 0x1000, 16);
-    first(&mut mem, 0x1000, 1);
-    pool(&mut mem, M - 0xfff, 0x1000, 16);
-    exact(&mut mem, 0x10, 1, M - 0xf);
+    pool(rt, &mut mem, M - 0xfff, 0x1000, 16)?;
+    last(rt, &mut mem, 0x10, 1)?;
+    pool(rt, &mut mem, M - 0xfff, 0x1000, 16)?;
+    first(rt, &mut mem, 0x1000, 1)?;
+    pool(rt, &mut mem, M - 0xfff, 0x1000, 16)?;
+    exact(rt, &mut mem, 0x10, 1, M - 0xf)
 }
 
-fn exact_outside() {
+fn exact_outside(rt: &impl Print) -> io::Result<()> {
     let mut mem = [0u64; 329];
-    pool(&mut mem, 0, 0x1000, 16);
-    exact(&mut mem, 1, 1, M);
+    pool(rt, &mut mem, 0, 0x1000, 16)?;
+    exact(rt, &mut mem, 1, 1, M)
 }
 
-fn freed_what_is_free() {
+fn freed_what_is_free(rt: &impl Print) -> io::Result<()> {
     let mut mem = [0u64; 329];
-    pool(&mut mem, 0x10, 0x10, 16);
-    back(&mut mem, 0x10, 0x1f);
+    pool(rt, &mut mem, 0x10, 0x10, 16)?;
+    back(rt, &mut mem, 0x10, 0x1f)
 }
 
-fn pools() {
+fn pools(rt: &impl Print) -> io::Result<()> {
     let mut mem = [0u64; 329];
-    pool(&mut mem, 5, 0, 16);
-    pool(&mut mem, 2, M, 16);
-    pool(&mut mem, 1, M, 0);
-    pool(&mut mem, 1, M, 4097);
-    pool(&mut mem, 1, M, 4096);
-    pool(&mut mem, 1, M, 16);
+    pool(rt, &mut mem, 5, 0, 16)?;
+    pool(rt, &mut mem, 2, M, 16)?;
+    pool(rt, &mut mem, 1, M, 0)?;
+    pool(rt, &mut mem, 1, M, 4097)?;
+    pool(rt, &mut mem, 1, M, 4096)?;
+    pool(rt, &mut mem, 1, M, 16)
 }
 
-fn ends() {
+fn ends(rt: &impl Print) -> io::Result<()> {
     let mut mem = [0u64; 329];
-    pool(&mut mem, M - 0xfff, 0x1000, 16);
-    exact(&mut mem, 0x11, 1, M - 0xf);
-    exact(&mut mem, 2, 1, M);
-    exact(&mut mem, M, 1, 7);
-    exact(&mut mem, 1, 1, M);
-    exact(&mut mem, 2, 1, M);
+    pool(rt, &mut mem, M - 0xfff, 0x1000, 16)?;
+    exact(rt, &mut mem, 0x11, 1, M - 0xf)?;
+    exact(rt, &mut mem, 2, 1, M)?;
+    exact(rt, &mut mem, M, 1, 7)?;
+    exact(rt, &mut mem, 1, 1, M)?;
+    exact(rt, &mut mem, 2, 1, M)
 }
 
-fn pairs_and_requests() {
+fn pairs_and_requests(rt: &impl Print) -> io::Result<()> {
     let mut mem = [0u64; 329];
-    pool(&mut mem, 0, 0x1000, 16);
-    back(&mut mem, 0, M);
-    back(&mut mem, 2, 1);
-    first(&mut mem, 0, 3);
-    first(&mut mem, 1, 3);
-    first(&mut mem, 1, 0);
-    last(&mut mem, 1, 0x8000_0000_0000_0000);
-    first(&mut mem, 1, 0x8000_0000_0000_0000);
+    pool(rt, &mut mem, 0, 0x1000, 16)?;
+    back(rt, &mut mem, 0, M)?;
+    back(rt, &mut mem, 2, 1)?;
+    first(rt, &mut mem, 0, 3)?;
+    first(rt, &mut mem, 1, 3)?;
+    first(rt, &mut mem, 1, 0)?;
+    last(rt, &mut mem, 1, 0x8000_0000_0000_0000)?;
+    first(rt, &mut mem, 1, 0x8000_0000_0000_0000)
 }
 
-fn full() {
+fn full(rt: &impl Print) -> io::Result<()> {
     let mut mem = [0u64; 329];
-    pool(&mut mem, 16, 16, 2);
-    exact(&mut mem, 1, 1, 20);
-    first(&mut mem, 1, 1);
-    first(&mut mem, 1, 1);
-    first(&mut mem, 15, 1);
+    pool(rt, &mut mem, 16, 16, 2)?;
+    exact(rt, &mut mem, 1, 1, 20)?;
+    first(rt, &mut mem, 1, 1)?;
+    first(rt, &mut mem, 1, 1)?;
+    first(rt, &mut mem, 15, 1)
 }
 
-fn no_allocator() {
+fn no_allocator(rt: &impl Print) -> io::Result<()> {
     let mut mem = [0u64; 329];
-    first(&mut mem, 1, 1);
-    last(&mut mem, 1, 1);
-    exact(&mut mem, 1, 1, 16);
-    back(&mut mem, 16, 16);
+    first(rt, &mut mem, 1, 1)?;
+    last(rt, &mut mem, 1, 1)?;
+    exact(rt, &mut mem, 1, 1, 16)?;
+    back(rt, &mut mem, 16, 16)
 }
 
-fn main() {
-    worked();
-    inside_a_granted_range();
-    the_whole_from_zero();
-    freed_from_one();
-    freed_before_the_end();
-    melted_with_one_address();
-    exact_at_the_last_address();
-    granted_to_the_end();
-    exact_outside();
-    freed_what_is_free();
-    pools();
-    ends();
-    pairs_and_requests();
-    full();
-    no_allocator();
+fn main(rt: HostRuntime) -> io::Result<()> {
+    worked(&rt)?;
+    inside_a_granted_range(&rt)?;
+    the_whole_from_zero(&rt)?;
+    freed_from_one(&rt)?;
+    freed_before_the_end(&rt)?;
+    melted_with_one_address(&rt)?;
+    exact_at_the_last_address(&rt)?;
+    granted_to_the_end(&rt)?;
+    exact_outside(&rt)?;
+    freed_what_is_free(&rt)?;
+    pools(&rt)?;
+    ends(&rt)?;
+    pairs_and_requests(&rt)?;
+    full(&rt)?;
+    no_allocator(&rt)
 }

@@ -5,7 +5,9 @@
 // reached by `allocate` and `free`, and the model leads from the listed states to listed states alone, so
 // that they are all. After the operation each id is given back, which shows the whole state.
 #![tactic(auto)]
+
 use ids::Answer;
+use std::io;
 use std::num::{wrapping_add_u32, wrapping_add_u64, wrapping_sub_u32};
 
 // An answer is a number: the id, or this and the reason's number.
@@ -281,15 +283,15 @@ fn all() -> Count {
     sum
 }
 
-fn line(n: u64, what: &[u8]) {
-    io::print_decimal(1, n);
-    io::write_all(1, what);
+fn line(rt: &impl Print, n: u64, what: &[u8]) -> io::Result<()> {
+    print!(rt; "{n}")?;
+    rt.write_all(what)
 }
 
-fn main() {
+fn main(rt: HostRuntime) -> io::Result<()> {
     let sum = all();
-    line(sum.states, b" states\n");
-    line(sum.operations, b" operations\n");
-    line(sum.comparisons, b" comparisons\n");
-    line(sum.wrong, b" wrong\n");
+    line(&rt, sum.states, b" states\n")?;
+    line(&rt, sum.operations, b" operations\n")?;
+    line(&rt, sum.comparisons, b" comparisons\n")?;
+    line(&rt, sum.wrong, b" wrong\n")
 }

