@@ -18,10 +18,10 @@ pub end_of-e-requires : goal.end_of-e-requires
 end_of-e-requires c = let st = c in let a = st.args in let m = a.mem.now in let w = found_in m a.a _ _ c.find-f.ensures c.in-In.is in (st.requires.0, st.requires.1, w.0)
 
 pub returns-then-e-a : goal.returns-then-e-a
-returns-then-e-a c = let st = c in let a = st.args in let m = a.mem.now in let w = found_in m a.a _ _ c.find-f.ensures c.in-In.is in cut_short m a.a a.size a.tag st.requires.2 st.requires.3 _ _ w.0 w.1 w.2 (omega (arith, c.end_of_lem.ensures, c.if-e-a.true, st.requires.2))
+returns-then-e-a c = let st = c in let a = st.args in let m = a.mem.now in let w = found_in m a.a _ _ c.find-f.ensures c.in-In.is in cut_short m a.a a.size a.tag st.requires.2 st.requires.3 _ _ w.0 w.1 w.2 (omega (arith, c.end_of-e.ensures, c.if-e-a.true, st.requires.2))
 
 pub returns-then-e-a-2 : goal.returns-then-e-a-2
-returns-then-e-a-2 c = let st = c in let a = st.args in let m = a.mem.now in let w = found_in m a.a _ _ c.find-f.ensures c.in-In.is in cut_short m a.a a.size a.tag st.requires.2 st.requires.3 _ _ w.0 w.1 w.2 (omega (arith, c.end_of_lem.ensures, c.if-e-a.false, c.if-e-a-2.true, st.requires.2))
+returns-then-e-a-2 c = let st = c in let a = st.args in let m = a.mem.now in let w = found_in m a.a _ _ c.find-f.ensures c.in-In.is in cut_short m a.a a.size a.tag st.requires.2 st.requires.3 _ _ w.0 w.1 w.2 (omega (arith, c.end_of-e.ensures, c.if-e-a.false, c.if-e-a-2.true, st.requires.2))
 
 pub size_of-n-requires : goal.size_of-n-requires
 size_of-n-requires c = let st = c in let a = st.args in let m = a.mem.now in let w = found_in m a.a _ _ c.find-f.ensures c.in-In.is in (st.requires.0, w.0.block)
@@ -30,10 +30,10 @@ pub returns-then-n-gt61 : goal.returns-then-n-gt61
 returns-then-n-gt61 c = let st = c in let a = st.args in let m = a.mem.now in let w = found_in m a.a _ _ c.find-f.ensures c.in-In.is in cut_unsettled m a.a a.size a.tag st.requires.2 st.requires.3 _ w.0.block (omega (arith, c.size_of-n.ensures))
 
 pub cut-done-requires : goal.cut-done-requires
-cut-done-requires c = let st = c in let a = st.args in let m = a.mem.now in let w = found_in m a.a _ _ c.find-f.ensures c.in-In.is in let win = cut_window m a.a a.size a.tag st.requires.2 st.requires.3 _ _ w.0 w.1 (sym c.tag_of-g.ensures ∙ c.if-g-ne0.false) (omega (arith, c.end_of_lem.ensures, c.if-e-a.false, c.if-e-a-2.false, st.requires.2)) in (st.requires.0, st.requires.1, win, omega (arith, c.size_of-n.ensures))
+cut-done-requires c = let st = c in let a = st.args in let m = a.mem.now in let w = found_in m a.a _ _ c.find-f.ensures c.in-In.is in let win = cut_window m a.a a.size a.tag st.requires.2 st.requires.3 _ _ w.0 w.1 (sym c.tag_of-g.ensures ∙ c.if-g-ne0.false) (omega (arith, c.end_of-e.ensures, c.if-e-a.false, c.if-e-a-2.false, st.requires.2)) in (st.requires.0, st.requires.1, win, omega (arith, c.size_of-n.ensures))
 
 pub returns-then-done : goal.returns-then-done
-returns-then-done c = let st = c in let a = st.args in let m = a.mem.now in let w = found_in m a.a _ _ c.find-f.ensures c.in-In.is in let win = cut_window m a.a a.size a.tag st.requires.2 st.requires.3 _ _ w.0 w.1 (sym c.tag_of-g.ensures ∙ c.if-g-ne0.false) (omega (arith, c.end_of_lem.ensures, c.if-e-a.false, c.if-e-a-2.false, st.requires.2)) in cut_done m a.a a.size a.tag st.requires.2 st.requires.3 _ _ win w.2 c.cut-done.new.mem c.cut-done.ensures c.if-done.true
+returns-then-done c = let st = c in let a = st.args in let m = a.mem.now in let w = found_in m a.a _ _ c.find-f.ensures c.in-In.is in let win = cut_window m a.a a.size a.tag st.requires.2 st.requires.3 _ _ w.0 w.1 (sym c.tag_of-g.ensures ∙ c.if-g-ne0.false) (omega (arith, c.end_of-e.ensures, c.if-e-a.false, c.if-e-a-2.false, st.requires.2)) in cut_done m a.a a.size a.tag st.requires.2 st.requires.3 _ _ win w.2 c.cut-done.new.mem c.cut-done.ensures c.if-done.true
 
 pub returns : goal.returns
-returns c = let st = c in let a = st.args in let m = a.mem.now in let w = found_in m a.a _ _ c.find-f.ensures c.in-In.is in let win = cut_window m a.a a.size a.tag st.requires.2 st.requires.3 _ _ w.0 w.1 (sym c.tag_of-g.ensures ∙ c.if-g-ne0.false) (omega (arith, c.end_of_lem.ensures, c.if-e-a.false, c.if-e-a-2.false, st.requires.2)) in cut_full m a.a a.size a.tag st.requires.2 st.requires.3 _ _ win w.2 c.cut-done.new.mem c.cut-done.ensures c.if-done.false
+returns c = let st = c in let a = st.args in let m = a.mem.now in let w = found_in m a.a _ _ c.find-f.ensures c.in-In.is in let win = cut_window m a.a a.size a.tag st.requires.2 st.requires.3 _ _ w.0 w.1 (sym c.tag_of-g.ensures ∙ c.if-g-ne0.false) (omega (arith, c.end_of-e.ensures, c.if-e-a.false, c.if-e-a-2.false, st.requires.2)) in cut_full m a.a a.size a.tag st.requires.2 st.requires.3 _ _ win w.2 c.cut-done.new.mem c.cut-done.ensures c.if-done.false

@@ -13,7 +13,7 @@ pub start_of-t-requires : goal.start_of-t-requires
 start_of-t-requires c = let st = c in let a = st.args in let m = a.mem.now in let w = found_in m a.s _ _ c.find-f.ensures c.in-In.is in (st.requires.0, w.0.block, w.0.tile)
 
 pub returns-then-t-s : goal.returns-then-t-s
-returns-then-t-s c = let st = c in let a = st.args in let m = a.mem.now in let w = found_in m a.s _ _ c.find-f.ensures c.in-In.is in melt_between m a.s _ _ w.0 w.2 (λ z. c.if-t-s.true (c.start_of_lem.ensures ∙ z))
+returns-then-t-s c = let st = c in let a = st.args in let m = a.mem.now in let w = found_in m a.s _ _ c.find-f.ensures c.in-In.is in melt_between m a.s _ _ w.0 w.2 (λ z. c.if-t-s.true (c.start_of-t.ensures ∙ z))
 
 pub tag_of-g-requires : goal.tag_of-g-requires
 tag_of-g-requires c = let st = c in let a = st.args in let m = a.mem.now in let w = found_in m a.s _ _ c.find-f.ensures c.in-In.is in (st.requires.0, w.0.block, w.0.tile)
@@ -25,4 +25,4 @@ pub melt-requires : goal.melt-requires
 melt-requires c = let st = c in let a = st.args in let m = a.mem.now in let w = found_in m a.s _ _ c.find-f.ensures c.in-In.is in (st.requires.0, st.requires.1, omega (arith, st.requires.1, w.0.block), w.0.tile)
 
 pub returns : goal.returns
-returns c = let st = c in let a = st.args in let m = a.mem.now in let w = found_in m a.s _ _ c.find-f.ensures c.in-In.is in melt_done m a.s _ _ w.0 w.2 c.melt.new.mem (sym c.start_of_lem.ensures ∙ c.if-t-s.false) (λ z. c.if-g-eq0.false (c.tag_of-g.ensures ∙ z)) c.melt.ensures
+returns c = let st = c in let a = st.args in let m = a.mem.now in let w = found_in m a.s _ _ c.find-f.ensures c.in-In.is in melt_done m a.s _ _ w.0 w.2 c.melt.new.mem (sym c.start_of-t.ensures ∙ c.if-t-s.false) (λ z. c.if-g-eq0.false (c.tag_of-g.ensures ∙ z)) c.melt.ensures
