@@ -10,7 +10,7 @@ use Rattle.blocks.specs.Blocks.{blocks_of, size_at, tags_of, sizes, index, Sound
 use Rattle.blocks.proofs.Parts.{tag_at, sizes_snoc}
 use Rattle.blocks.proofs.Flat.{flat_tag, flat_within}
 use Rattle.splice.specs.Splice.{splice}
-use Rattle.melting.specs.Melting.{Free, FreeBefore}
+use Rattle.melting.specs.Melting.{Free}
 
 -- range i of block b is free by its tag
 module _ (m : List ℕ) (sound : Sound m) (b : ℕ) (h : b < blocks_of m) (i : ℕ) (l : i < size_at b m) where

@@ -1,16 +1,16 @@
 -- What `free_before` and `give` answer and leave. Assumes nothing.
 use Prim.Native.Nat.{ℕ, ◌+◌, ◌-◌, ◌*◌, ◌≤◌, ◌<◌}
-use mathlib.Core.Path.{◌≡◌, refl, sym, ap, ◌∙◌}
-use mathlib.Core.List.{List, [], ◌∷◌, ◌++◌}
+use mathlib.Core.Path.{◌≡◌, sym, ◌∙◌}
+use mathlib.Core.List.{List, [], ◌∷◌}
 use mathlib.Core.Bool.{Bool, true, false}
 use native.Mathlib.Decide.{ℕ_discrete, dec_lt}
 use native.Mathlib.Omega.{arith}
 use lib.ListN.{length, get_or}
 use Rattle.ranges.specs.Align.{Decides}
-use Rattle.blocks.specs.Blocks.{count_of, blocks_of, limit_of, size_at, starts_at, tags_at, starts_of, tags_of, sizes, index, Sound, Bounded, Ready}
+use Rattle.blocks.specs.Blocks.{count_of, blocks_of, limit_of, size_at, starts_of, tags_of, index, Sound, Bounded, Ready}
 use Rattle.blocks.proofs.Parts.{start_at}
 use Rattle.blocks.proofs.Flat.{flat_start, flat_within}
-use Rattle.spread.specs.Spread.{Laid, Turned, Nearly}
+use Rattle.spread.specs.Spread.{Turned, Nearly}
 use Rattle.splice.specs.Splice.{splice, Spliced}
 use Rattle.splice.proofs.Turns.{other_size, other_first, other_within, spliced_sound, spliced_blocks, spliced_starts, spliced_tags, spliced_total, first_behind}
 use Rattle.melting.specs.Melting.{Free, FreeBefore, Almost, Given}

@@ -5,16 +5,15 @@ use mathlib.Core.List.{List, [], ◌∷◌, ◌++◌}
 use mathlib.Core.Bool.{Bool, true, false, cond}
 use native.Mathlib.Decide.{ℕ_discrete}
 use native.Mathlib.Omega.{arith}
-use lib.ListN.{length, get_or, take, drop, length-append}
+use lib.ListN.{length, get_or, take, drop}
 use Rattle.ranges.specs.Align.{Decides}
-use Rattle.blocks.specs.Blocks.{count_of, blocks_of, limit_of, size_at, starts_of, tags_of, sizes, index, Sound, Bounded, Ready}
-use Rattle.blocks.proofs.Parts.{three_sizes, sizes_snoc}
+use Rattle.blocks.specs.Blocks.{blocks_of, limit_of, size_at, starts_of, tags_of, sizes, index, Sound, Bounded, Ready}
+use Rattle.blocks.proofs.Parts.{sizes_snoc}
 use Rattle.blocks.proofs.Flat.{all_starts, all_tags, flat_within}
-use Rattle.spread.specs.Spread.{Turned}
 use Rattle.spread.proofs.Agree.{sizes_agree}
 use Rattle.splice.specs.Splice.{splice, Spliced}
 use Rattle.splice.proofs.Turns.{other_size, other_first, other_within, touched_sizes, spliced_sound, spliced_blocks, spliced_starts, spliced_tags, spliced_total, first_behind}
-use Rattle.melting.specs.Melting.{Free, Almost, Given, Gone, Absorbed, Melted}
+use Rattle.melting.specs.Melting.{Free, Almost, Given, Absorbed, Melted}
 use Rattle.melting.proofs.Frees.{free_by, not_free, behind_here, behind_there, decide_map, less_get, less_less, none_less}
 use Rattle.melting.proofs.Gives.{turned_by, ready_almost}
 

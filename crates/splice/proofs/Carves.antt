@@ -1,15 +1,15 @@
 -- What `carve` and `cut` leave. Assumes nothing.
-use Prim.Native.Nat.{ℕ, ◌+◌, ◌-◌, ◌*◌, ◌≤◌, ◌<◌}
+use Prim.Native.Nat.{ℕ, ◌+◌, ◌*◌, ◌≤◌, ◌<◌}
 use mathlib.Core.Path.{◌≡◌, refl, sym, ap, ◌∙◌}
 use mathlib.Core.List.{List, [], ◌∷◌, ◌++◌}
 use mathlib.Core.Bool.{Bool, true, false}
 use native.Mathlib.Decide.{ℕ_discrete, dec_lt}
 use native.Mathlib.Omega.{arith}
 use lib.ListN.{length, get_or, take, drop}
-use Rattle.blocks.specs.Blocks.{count_of, blocks_of, limit_of, size_at, bound_at, starts_at, tags_at, last_at, past_at, starts_of, tags_of, sizes, index, Sound, Bounded, Ready}
+use Rattle.blocks.specs.Blocks.{count_of, blocks_of, limit_of, size_at, bound_at, starts_at, tags_at, last_at, past_at, starts_of, tags_of, Sound, Bounded, Ready}
 use Rattle.blocks.proofs.Parts.{starts_length, tags_length, three_sizes}
-use Rattle.spread.specs.Spread.{Laid, Turned, Nearly, Covered}
-use Rattle.splice.specs.Splice.{splice, Touched, Spliced, Grown, Window, new_starts, new_tags, start_in, past_in, Carved, Cut}
+use Rattle.spread.specs.Spread.{Turned, Nearly, Covered}
+use Rattle.splice.specs.Splice.{Spliced, Grown, Window, new_starts, new_tags, start_in, past_in, Carved, Cut}
 use Rattle.splice.proofs.Pieces.{starts_both, starts_before, starts_after, starts_whole, tags_both, tags_before, tags_after, tags_whole, some_pieces, first_piece}
 use Rattle.splice.proofs.Bounds.{within_carved, within_more}
 use Rattle.splice.proofs.Turns.{other_size, other_first, other_last, other_within, spliced_sound, spliced_blocks, spliced_starts, spliced_tags, spliced_total, first_kept, first_behind, spliced_self, spliced_in}

@@ -1,6 +1,6 @@
 -- A block's starts and tags after `put`, `grow` and `shrink`. Assumes nothing.
-use Prim.Native.Nat.{ℕ, zero, suc, ◌+◌, ◌-◌, ◌*◌, ◌%◌, ◌≤◌, ◌<◌}
-use mathlib.Core.Path.{◌≡◌, refl, sym, ap, ◌∙◌}
+use Prim.Native.Nat.{ℕ, ◌+◌, ◌-◌, ◌*◌, ◌%◌, ◌≤◌, ◌<◌}
+use mathlib.Core.Path.{◌≡◌, sym, ap, ◌∙◌}
 use mathlib.Core.List.{List, [], ◌∷◌, ◌++◌}
 use native.Mathlib.Numerals.{add-one}
 use native.Mathlib.Omega.{arith}
@@ -9,7 +9,7 @@ use lib.Seq.{set_split, length-take-le, drop-set-add, take-set-le, take-set-lt, 
 use Rattle.blocks.specs.Blocks.{count_of, blocks_of, size_at, starts_at, tags_at, Sound}
 use Rattle.blocks.proofs.Parts.{part_get, part_length, fits, block_room, starts_length, tags_length}
 use Rattle.spread.proofs.Agree.{small, two_length, two_other, two_first, two_second}
-use Rattle.splice.specs.Splice.{splice, Widened, Narrowed, Touched, Spliced, Grown}
+use Rattle.splice.specs.Splice.{Widened, Narrowed, Spliced, Grown}
 use Rattle.splice.proofs.Lists.{more_list, less_list}
 
 -- memory m' is m₁ with the block's number of ranges, and the table's

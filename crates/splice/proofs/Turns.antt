@@ -2,14 +2,14 @@
 use Prim.Native.Nat.{ℕ, zero, suc, ◌+◌, ◌-◌, ◌*◌, ◌%◌, ◌≤◌, ◌<◌}
 use mathlib.Core.Path.{◌≡◌, refl, sym, ap, ◌∙◌}
 use mathlib.Core.List.{List, [], ◌∷◌, ◌++◌}
-use native.Mathlib.Decide.{ℕ_discrete, dec_lt}
+use native.Mathlib.Decide.{dec_lt}
 use native.Mathlib.Omega.{arith}
 use lib.ListN.{length, get_or, take, drop, length-append, get_or-append}
 use lib.Seq.{length-take-le}
-use Rattle.blocks.specs.Blocks.{room_of, count_of, blocks_of, limit_of, size_at, bound_at, starts_at, tags_at, last_at, past_at, sizes, cells, starts_of, tags_of, index, Within, Sound}
+use Rattle.blocks.specs.Blocks.{count_of, blocks_of, limit_of, size_at, bound_at, starts_at, tags_at, last_at, past_at, sizes, cells, starts_of, tags_of, index, Within, Sound}
 use Rattle.blocks.proofs.Parts.{part_same, fits, block_room, starts_length, tags_length, start_at, last_inner, last_end, three, three_sizes, cells_length}
 use Rattle.spread.proofs.Agree.{sizes_agree, cells_agree}
-use Rattle.splice.specs.Splice.{splice, Touched, Spliced, Grown}
+use Rattle.splice.specs.Splice.{splice, Touched, Spliced}
 use Rattle.splice.proofs.Lists.{splice_self, splice_in, splice_flat}
 
 module _ (m m' : List ℕ) (b : ℕ) (sound : Sound m) (h : b < blocks_of m) (t : Touched b m m') where

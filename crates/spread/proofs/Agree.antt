@@ -1,11 +1,11 @@
 -- Lent words of which some are as they were: the blocks there are as they were. Assumes nothing.
-use Prim.Native.Nat.{ℕ, zero, suc, ◌+◌, ◌-◌, ◌*◌, ◌%◌, ◌≤◌, ◌<◌}
-use mathlib.Core.Path.{◌≡◌, refl, sym, ap, ◌∙◌}
+use Prim.Native.Nat.{ℕ, zero, suc, ◌+◌, ◌*◌, ◌%◌, ◌≤◌, ◌<◌}
+use mathlib.Core.Path.{◌≡◌, refl, ap, ◌∙◌}
 use mathlib.Core.List.{List}
 use native.Mathlib.Omega.{arith}
 use lib.ListN.{length, get_or, take, drop, set, length-set}
 use lib.Seq.{get_or-set_other, get_or-set_same}
-use Rattle.blocks.specs.Blocks.{room_of, blocks_of, size_at, starts_at, tags_at, last_at, sizes, cells, starts_of, tags_of, Sound, Settled}
+use Rattle.blocks.specs.Blocks.{blocks_of, size_at, starts_at, tags_at, last_at, sizes, cells, starts_of, tags_of, Sound, Settled}
 use Rattle.blocks.proofs.Parts.{part_same, fits, block_room}
 use Rattle.spread.specs.Spread.{Same}
 

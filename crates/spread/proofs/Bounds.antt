@@ -1,12 +1,12 @@
 -- New bounds, block by block. Assumes nothing.
-use Prim.Native.Nat.{ℕ, ◌+◌, ◌-◌, ◌*◌, ◌≤◌, ◌<◌}
-use mathlib.Core.Path.{◌≡◌, refl, sym, ap, ◌∙◌}
+use Prim.Native.Nat.{ℕ, ◌+◌, ◌-◌, ◌≤◌, ◌<◌}
+use mathlib.Core.Path.{◌≡◌, refl, sym, ◌∙◌}
 use mathlib.Core.List.{List}
 use native.Mathlib.Decide.{ℕ_discrete, dec_lt}
 use native.Mathlib.Omega.{arith}
-use lib.ListN.{length, get_or, set, length-set}
+use lib.ListN.{set, length-set}
 use lib.Seq.{get_or-set_other, get_or-set_same}
-use Rattle.blocks.specs.Blocks.{blocks_of, size_at, bound_at, starts_at, tags_at, last_at, past_at, starts_of, tags_of, Within, Sound, Settled, Bounded}
+use Rattle.blocks.specs.Blocks.{blocks_of, size_at, bound_at, starts_at, tags_at, past_at, starts_of, tags_of, Within, Sound, Bounded}
 use Rattle.spread.specs.Spread.{Same, Tightened, Trimmed, Laid, Turned, Nearly, Covered}
 use Rattle.spread.proofs.Agree.{same_self, same_last, same_sound, same_starts, same_tags, same_settled, same_all_starts, same_all_tags}
 

@@ -1,14 +1,14 @@
 -- `copy`, and what `gather` and `scatter` have done before block b. Assumes nothing.
-use Prim.Native.Nat.{ℕ, zero, suc, ◌+◌, ◌-◌, ◌*◌, ◌%◌, ◌≤◌, ◌<◌}
+use Prim.Native.Nat.{ℕ, ◌+◌, ◌-◌, ◌*◌, ◌%◌, ◌≤◌, ◌<◌}
 use mathlib.Core.Path.{◌≡◌, refl, sym, ap, ◌∙◌}
-use mathlib.Core.List.{List, [], ◌∷◌, ◌++◌, append-nil}
+use mathlib.Core.List.{List, ◌++◌, append-nil}
 use native.Mathlib.Decide.{ℕ_discrete, dec_lt}
 use native.Mathlib.Omega.{arith}
 use lib.ListN.{length, get_or, take, drop, set, length-set}
 use lib.Seq.{get_or-set_other, get_or-set_same, take-add, drop-drop}
-use Rattle.blocks.specs.Blocks.{room_of, count_of, blocks_of, limit_of, size_at, sizes, cells, Sound}
-use Rattle.blocks.proofs.Parts.{part_same, fits, block_room, cells_split, sizes_snoc, three_sizes}
-use Rattle.spread.specs.Spread.{Same, Copied, Apart, Gathered, Dealt}
+use Rattle.blocks.specs.Blocks.{room_of, count_of, blocks_of, size_at, sizes, cells, Sound}
+use Rattle.blocks.proofs.Parts.{part_same, fits, cells_split, sizes_snoc, three_sizes}
+use Rattle.spread.specs.Spread.{Copied, Apart, Gathered, Dealt}
 use Rattle.spread.proofs.Agree.{small, sizes_agree, cells_agree}
 
 module _ (m : List ℕ) (from to : ℕ) where

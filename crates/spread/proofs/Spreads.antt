@@ -1,10 +1,10 @@
 -- Spreading is the identity on the ranges. Assumes nothing.
-use Prim.Native.Nat.{ℕ, zero, suc, ◌+◌, ◌*◌, ◌≤◌, ◌<◌}
-use mathlib.Core.Path.{◌≡◌, refl, sym, ap, ◌∙◌}
+use Prim.Native.Nat.{ℕ, ◌≤◌, ◌<◌}
+use mathlib.Core.Path.{◌≡◌, refl, sym, ◌∙◌}
 use mathlib.Core.List.{List}
 use native.Mathlib.Omega.{arith}
 use lib.ListN.{length, get_or}
-use Rattle.blocks.specs.Blocks.{room_of, count_of, blocks_of, limit_of, size_at, sizes, cells, starts_of, tags_of, Sound, Settled}
+use Rattle.blocks.specs.Blocks.{room_of, count_of, blocks_of, limit_of, sizes, starts_of, tags_of, Sound}
 use Rattle.spread.specs.Spread.{Gathered, Dealt, Laid}
 
 pub dealt_laid : (m m₁ m₂ : List ℕ) → Sound m → Gathered m m₁ (room_of m) (blocks_of m) (count_of m) → Dealt m₁ m₂ (room_of m) (blocks_of m₂) (count_of m) → 0 < blocks_of m₂ → blocks_of m₂ ≤ room_of m → Laid m m₂ (starts_of m) (tags_of m)

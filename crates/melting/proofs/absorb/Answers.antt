@@ -1,9 +1,7 @@
 -- `melting::absorb` meets its contract.
 use native.Mathlib.Omega.{arith}
-use Prim.Native.Nat.{◌+◌}
 use Rattle.blocks.proofs.Parts.{fits}
 use Rattle.melting.proofs.Gones.{granted_here, none_behind, empty_behind, granted_there, absorb_here, absorb_there}
-use borrow.Author.Rules.{rules}
 use Rattle.melting.proofs.absorb.Goals as goal
 
 pub overflow_add-j : goal.overflow_add-j

@@ -3,7 +3,6 @@ use native.Mathlib.Omega.{arith}
 use Prim.Native.Nat.{◌-◌}
 use Rattle.blocks.proofs.Parts.{fits}
 use Rattle.melting.proofs.Gives.{here_free, here_granted, none_before, empty_before, there_free, there_granted}
-use borrow.Author.Rules.{rules}
 use Rattle.melting.proofs.free_before.Goals as goal
 
 pub overflow_add-b-then-i-gt0 : goal.overflow_add-b-then-i-gt0

@@ -2,10 +2,8 @@
 use native.Mathlib.Omega.{arith}
 use mathlib.Core.Path.{refl}
 use mathlib.Core.List.{[], ◌∷◌}
-use Prim.Native.Nat.{◌+◌}
 use Rattle.blocks.proofs.Parts.{fits}
 use Rattle.melting.proofs.Gives.{give_ready, given_up, given_free}
-use borrow.Author.Rules.{rules}
 use Rattle.melting.proofs.give.Goals as goal
 
 pub overflow_mul-s : goal.overflow_mul-s

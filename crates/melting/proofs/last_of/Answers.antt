@@ -4,20 +4,19 @@ use Prim.Native.Nat.{◌+◌}
 use Rattle.blocks.specs.Blocks.{past_at}
 use Rattle.blocks.proofs.Parts.{start_past}
 use Rattle.melting.proofs.Inner.{start_any}
-use borrow.Author.Rules.{rules}
 use Rattle.melting.proofs.last_of.Goals as goal
 
 pub returns-then-next-gt0 : goal.returns-then-next-gt0
 returns-then-next-gt0 c =
     let st = c in
     let m = st.args.mem.now in
-    omega (arith, start_any m st.requires.0 st.args.b (omega arith) (st.args.j + 1) (omega (arith, c.size_of-n.ensures)) (past_at st.args.b m), c.start_of_lem.ensures)
+    omega (arith, start_any m st.requires.0 st.args.b (omega arith) (st.args.j + 1) (omega (arith, c.size_of-n.ensures)) (past_at st.args.b m), c.start_of-next.ensures)
 
 pub returns-then-k-n : goal.returns-then-k-n
 returns-then-k-n c =
     let st = c in
     let m = st.args.mem.now in
-    omega (arith, start_any m st.requires.0 st.args.b (omega arith) (st.args.j + 1) (omega (arith, c.size_of-n.ensures)) (past_at st.args.b m), c.start_of_lem.ensures)
+    omega (arith, start_any m st.requires.0 st.args.b (omega arith) (st.args.j + 1) (omega (arith, c.size_of-n.ensures)) (past_at st.args.b m), c.start_of-next.ensures)
 
 pub returns : goal.returns
 returns c =

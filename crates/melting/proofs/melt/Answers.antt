@@ -2,7 +2,6 @@
 use native.Mathlib.Omega.{arith}
 use mathlib.Core.Path.{sym, ◌∙◌}
 use Rattle.melting.proofs.Gones.{melt_done}
-use borrow.Author.Rules.{rules}
 use Rattle.melting.proofs.melt.Goals as goal
 
 pub returns-then-i-n : goal.returns-then-i-n

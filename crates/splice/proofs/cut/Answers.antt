@@ -1,6 +1,5 @@
 -- `splice::cut` meets its contract.
 use Rattle.splice.proofs.Carves.{cut_ready, raise_ready, cut_done, cut_raised, cut_full}
-use borrow.Author.Rules.{rules}
 use Rattle.splice.proofs.cut.Goals as goal
 
 pub raise-requires : goal.raise-requires

@@ -6,7 +6,6 @@ use lib.Seq.{lt-length-set}
 use Rattle.blocks.specs.Blocks.{size_at}
 use Rattle.splice.specs.Splice.{Widened}
 use Rattle.splice.proofs.Cells.{grow_grown}
-use borrow.Author.Rules.{rules}
 use Rattle.splice.proofs.grow.Goals as goal
 
 pub widen-requires : goal.widen-requires

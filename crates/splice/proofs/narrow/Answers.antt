@@ -1,10 +1,7 @@
 -- `splice::narrow` meets its contract.
-use Prim.Native.Nat.{◌-◌, ◌≤◌}
 use mathlib.Core.Path.{◌≡◌, refl}
-use borrow.Author.Rules.{rules}
 use native.Mathlib.Omega.{arith}
-use lib.ListN.{length, length-set}
-use Rattle.splice.specs.Splice.{Narrowed}
+use lib.ListN.{length-set}
 use Rattle.splice.proofs.Shift.{narrowed_none, narrowed_turn}
 use Rattle.splice.proofs.narrow.Goals as goal
 

@@ -1,11 +1,8 @@
 -- `splice::narrow` meets its contract.
 use Prim.Native.Nat.{◌-◌, ◌≤◌}
-use mathlib.Core.Path.{◌≡◌, refl}
-use borrow.Author.Rules.{rules}
-use native.Mathlib.Omega.{arith}
-use lib.ListN.{length, length-set}
+use mathlib.Core.Path.{◌≡◌}
+use lib.ListN.{length}
 use Rattle.splice.specs.Splice.{Narrowed}
-use Rattle.splice.proofs.Shift.{narrowed_none, narrowed_turn}
 use Rattle.splice.proofs.narrow.Given as goal
 
 abbrev pub invariant-loop-k : goal.invariant-loop-k

@@ -3,7 +3,6 @@ use native.Mathlib.Omega.{arith}
 use lib.ListN.{length-set}
 use Rattle.splice.proofs.Cells.{put_spliced}
 use Rattle.blocks.proofs.Parts.{fits}
-use borrow.Author.Rules.{rules}
 use Rattle.splice.proofs.put.Goals as goal
 
 pub bounds-mem-b : goal.bounds-mem-b

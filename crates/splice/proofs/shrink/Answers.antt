@@ -1,13 +1,11 @@
 -- `splice::shrink` meets its contract.
 use native.Mathlib.Omega.{arith}
 use Prim.Native.Nat.{◌+◌, ◌-◌, ◌*◌}
-use mathlib.Core.Path.{refl}
 use lib.Seq.{lt-length-set}
 use Rattle.blocks.specs.Blocks.{size_at}
 use Rattle.splice.specs.Splice.{Narrowed}
 use Rattle.splice.proofs.Cells.{shrink_spliced}
 use Rattle.blocks.proofs.Parts.{fits}
-use borrow.Author.Rules.{rules}
 use Rattle.splice.proofs.shrink.Goals as goal
 
 pub overflow_sub-n : goal.overflow_sub-n

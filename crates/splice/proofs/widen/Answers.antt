@@ -1,10 +1,7 @@
 -- `splice::widen` meets its contract.
-use Prim.Native.Nat.{◌≤◌}
 use mathlib.Core.Path.{◌≡◌, refl}
-use borrow.Author.Rules.{rules}
 use native.Mathlib.Omega.{arith}
-use lib.ListN.{length, length-set}
-use Rattle.splice.specs.Splice.{Widened}
+use lib.ListN.{length-set}
 use Rattle.splice.proofs.Shift.{widened_none, widened_turn}
 use Rattle.splice.proofs.widen.Goals as goal
 

@@ -1,11 +1,8 @@
 -- `splice::widen` meets its contract.
 use Prim.Native.Nat.{◌≤◌}
-use mathlib.Core.Path.{◌≡◌, refl}
-use borrow.Author.Rules.{rules}
-use native.Mathlib.Omega.{arith}
-use lib.ListN.{length, length-set}
+use mathlib.Core.Path.{◌≡◌}
+use lib.ListN.{length}
 use Rattle.splice.specs.Splice.{Widened}
-use Rattle.splice.proofs.Shift.{widened_none, widened_turn}
 use Rattle.splice.proofs.widen.Given as goal
 
 abbrev pub invariant-loop-k : goal.invariant-loop-k

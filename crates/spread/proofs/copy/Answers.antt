@@ -1,10 +1,7 @@
 -- `spread::copy` meets its contract.
-use Prim.Native.Nat.{◌-◌, ◌≤◌}
 use mathlib.Core.Path.{◌≡◌, refl}
-use borrow.Author.Rules.{rules}
 use native.Mathlib.Omega.{arith}
-use lib.ListN.{length, length-set}
-use Rattle.spread.specs.Spread.{Copied}
+use lib.ListN.{length-set}
 use Rattle.spread.proofs.Copies.{copied_none, copied_more}
 use Rattle.spread.proofs.copy.Goals as goal
 

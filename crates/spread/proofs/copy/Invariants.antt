@@ -1,11 +1,8 @@
 -- `spread::copy` meets its contract.
 use Prim.Native.Nat.{◌-◌, ◌≤◌}
-use mathlib.Core.Path.{◌≡◌, refl}
-use borrow.Author.Rules.{rules}
-use native.Mathlib.Omega.{arith}
-use lib.ListN.{length, length-set}
+use mathlib.Core.Path.{◌≡◌}
+use lib.ListN.{length}
 use Rattle.spread.specs.Spread.{Copied}
-use Rattle.spread.proofs.Copies.{copied_none, copied_more}
 use Rattle.spread.proofs.copy.Given as goal
 
 abbrev pub invariant-loop-i : goal.invariant-loop-i

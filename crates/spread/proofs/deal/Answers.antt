@@ -1,11 +1,9 @@
 -- `spread::deal` meets its contract.
 use native.Mathlib.Omega.{arith}
-use Prim.Native.Nat.{◌≤◌, ◌<◌}
-use mathlib.Core.Path.{◌≡◌}
+use Prim.Native.Nat.{◌≤◌}
 use Rattle.spread.specs.Spread.{Gathered, Dealt}
 use Rattle.blocks.specs.Blocks.{room_of, blocks_of, count_of}
 use Rattle.spread.proofs.Spreads.{dealt_laid}
-use borrow.Author.Rules.{rules}
 use Rattle.spread.proofs.deal.Goals as goal
 
 pub gather-requires : goal.gather-requires

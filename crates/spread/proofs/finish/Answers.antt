@@ -1,10 +1,6 @@
 -- `spread::finish` meets its contract.
 use native.Mathlib.Omega.{arith}
-use Prim.Native.Nat.{◌-◌, ◌≤◌, ◌<◌}
-use mathlib.Core.Path.{◌≡◌, refl, sym, ◌∙◌}
-use Rattle.blocks.specs.Blocks.{blocks_of, size_at}
 use Rattle.spread.proofs.Bounds.{trim_all, nearly_laid}
-use borrow.Author.Rules.{rules}
 use Rattle.spread.proofs.finish.Goals as goal
 
 pub size_of-n-requires : goal.size_of-n-requires

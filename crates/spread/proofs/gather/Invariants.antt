@@ -1,12 +1,8 @@
 -- `spread::gather` meets its contract.
 use Prim.Native.Nat.{◌-◌, ◌*◌, ◌≤◌}
-use mathlib.Core.Path.{◌≡◌, refl, sym, ◌∙◌}
-use borrow.Author.Rules.{rules}
-use native.Mathlib.Omega.{arith}
+use mathlib.Core.Path.{◌≡◌}
 use lib.ListN.{length}
-use Rattle.blocks.specs.Blocks.{size_at, count_of}
 use Rattle.spread.specs.Spread.{Gathered}
-use Rattle.spread.proofs.Copies.{gathered_none, gathered_more, gathered_next, apart_below}
 use Rattle.spread.proofs.gather.Given as goal
 
 abbrev pub invariant-loop-b : goal.invariant-loop-b

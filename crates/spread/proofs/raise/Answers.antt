@@ -1,7 +1,6 @@
 -- `spread::raise` meets its contract.
 use native.Mathlib.Omega.{arith}
 use Rattle.spread.proofs.Bounds.{raised}
-use borrow.Author.Rules.{rules}
 use Rattle.spread.proofs.raise.Goals as goal
 
 pub returns-then-odd-ne0 : goal.returns-then-odd-ne0

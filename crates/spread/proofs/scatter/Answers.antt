@@ -1,11 +1,9 @@
 -- `spread::scatter` meets its contract.
 use Prim.Native.Nat.{ℕ, ◌+◌, ◌-◌, ◌*◌, ◌≤◌, ◌<◌}
 use mathlib.Core.Path.{◌≡◌, refl}
-use borrow.Author.Rules.{rules}
 use native.Mathlib.Omega.{arith}
 use native.Mathlib.Decide.{dec_le, dec_lt}
-use lib.ListN.{length, length-set}
-use Rattle.spread.specs.Spread.{Dealt}
+use lib.ListN.{length-set}
 use Rattle.spread.proofs.Copies.{dealt_none, dealt_more, dealt_end, apart_above}
 use Rattle.spread.proofs.scatter.Goals as goal
 
@@ -28,10 +26,10 @@ copy-requires-in-loop-off c = let l = c.loop-off in let st = c in let a = st.arg
 
 pub loop-off-preserved : goal.loop-off-preserved
 loop-off-preserved c = let l = c.loop-off in let st = c in let a = st.args in let o = l.invariant.2 in let s = c.share-c.ensures in let e = c.copy.ensures.len in let e2 = c.copy-in-loop-off.ensures.len in
-    (omega (arith, s.1), omega (arith, s.1), rest a.n l.off a.room l.b c.share-c.result (omega arith) o s, λ h. omega arith, simp length-set (omega (arith, e, e2)), dealt_more a.mem.now a.room (omega arith) (omega arith) l.mem-1 c.copy.new.mem c.copy-in-loop-off.new.mem l.b l.off c.share-c.result (omega arith) s.0 s.2 (omega (arith, s.1)) l.invariant.5 c.copy.ensures c.copy-in-loop-off.ensures)
+    (omega (arith, s.1), omega (arith, s.1), rest a.n l.off a.room l.b c.share-c.result (omega arith) o s, λ h. omega arith, simp length-set (omega (arith, e, e2)), dealt_more a.mem.now a.room (omega arith) (omega arith) l.mem c.copy.new.mem c.copy-in-loop-off.new.mem l.b l.off c.share-c.result (omega arith) s.0 s.2 (omega (arith, s.1)) l.invariant.5 c.copy.ensures c.copy-in-loop-off.ensures)
 
 pub returns : goal.returns
 returns c = let l = c.loop-off in let st = c in let a = st.args in
     let e : l.off ≡ a.n = omega arith in
-    let d = dealt_end a.mem.now l.mem-1 a.room l.b l.off l.invariant.0 (omega arith) (omega arith) l.invariant.5 in
+    let d = dealt_end a.mem.now l.mem a.room l.b l.off l.invariant.0 (omega arith) (omega arith) l.invariant.5 in
     (rw e at d.0, omega (arith, d.1, l.invariant.3 (omega arith)), omega (arith, d.1))

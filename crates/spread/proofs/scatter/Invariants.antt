@@ -1,12 +1,8 @@
 -- `spread::scatter` meets its contract.
-use Prim.Native.Nat.{ℕ, ◌+◌, ◌-◌, ◌*◌, ◌≤◌, ◌<◌}
-use mathlib.Core.Path.{◌≡◌, refl}
-use borrow.Author.Rules.{rules}
-use native.Mathlib.Omega.{arith}
-use native.Mathlib.Decide.{dec_le, dec_lt}
-use lib.ListN.{length, length-set}
+use Prim.Native.Nat.{◌+◌, ◌-◌, ◌*◌, ◌≤◌, ◌<◌}
+use mathlib.Core.Path.{◌≡◌}
+use lib.ListN.{length}
 use Rattle.spread.specs.Spread.{Dealt}
-use Rattle.spread.proofs.Copies.{dealt_none, dealt_more, dealt_end, apart_above}
 use Rattle.spread.proofs.scatter.Given as goal
 
 abbrev pub invariant-loop-off : goal.invariant-loop-off

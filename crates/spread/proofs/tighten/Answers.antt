@@ -3,8 +3,7 @@ use native.Mathlib.Omega.{arith}
 use Prim.Native.Nat.{◌+◌, ◌-◌, ◌*◌}
 use mathlib.Core.Path.{◌≡◌, refl}
 use Rattle.blocks.specs.Blocks.{size_at, starts_at, tags_at, past_at, Within}
-use Rattle.blocks.proofs.Parts.{part_lent, fits, part_length}
-use borrow.Author.Rules.{rules}
+use Rattle.blocks.proofs.Parts.{part_lent}
 use Rattle.spread.proofs.tighten.Goals as goal
 
 pub returns : goal.returns

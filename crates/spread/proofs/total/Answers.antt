@@ -1,11 +1,9 @@
 -- `spread::total` meets its contract.
 use native.Mathlib.Omega.{arith}
-use Prim.Native.Nat.{◌+◌, ◌-◌, ◌*◌, ◌≤◌}
-use mathlib.Core.Path.{◌≡◌, refl, sym, ◌∙◌}
-use Rattle.blocks.specs.Blocks.{blocks_of, sizes}
+use mathlib.Core.Path.{◌≡◌, sym}
+use Rattle.blocks.specs.Blocks.{blocks_of}
 use Rattle.blocks.proofs.Parts.{sizes_snoc, fits}
 use Rattle.spread.proofs.Spreads.{sizes_none}
-use borrow.Author.Rules.{rules}
 use Rattle.spread.proofs.total.Goals as goal
 
 pub loop-b-init : goal.loop-b-init

@@ -1,11 +1,7 @@
 -- `spread::total` meets its contract.
-use native.Mathlib.Omega.{arith}
-use Prim.Native.Nat.{◌+◌, ◌-◌, ◌*◌, ◌≤◌}
-use mathlib.Core.Path.{◌≡◌, refl, sym, ◌∙◌}
-use Rattle.blocks.specs.Blocks.{blocks_of, sizes}
-use Rattle.blocks.proofs.Parts.{sizes_snoc, fits}
-use Rattle.spread.proofs.Spreads.{sizes_none}
-use borrow.Author.Rules.{rules}
+use Prim.Native.Nat.{◌-◌, ◌*◌, ◌≤◌}
+use mathlib.Core.Path.{◌≡◌}
+use Rattle.blocks.specs.Blocks.{sizes}
 use Rattle.spread.proofs.total.Given as goal
 
 abbrev pub invariant-loop-b : goal.invariant-loop-b

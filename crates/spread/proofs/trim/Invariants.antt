@@ -1,11 +1,6 @@
 -- `spread::trim` meets its contract.
-use native.Mathlib.Omega.{arith}
-use Prim.Native.Nat.{◌+◌, ◌-◌, ◌≤◌}
-use mathlib.Core.Path.{◌≡◌, refl}
-use lib.ListN.{length}
+use Prim.Native.Nat.{◌-◌, ◌≤◌}
 use Rattle.spread.specs.Spread.{Trimmed}
-use Rattle.spread.proofs.Bounds.{trim_none, trim_more, trim_next}
-use borrow.Author.Rules.{rules}
 use Rattle.spread.proofs.trim.Given as goal
 
 abbrev pub invariant-loop-b : goal.invariant-loop-b

@@ -1,10 +1,9 @@
 -- `spread::widest` meets its contract.
-use Prim.Native.Nat.{◌-◌, ◌≤◌}
+use Prim.Native.Nat.{◌-◌}
 use mathlib.Core.Path.{◌≡◌}
-use borrow.Author.Rules.{rules}
 use native.Mathlib.Omega.{arith}
 use lib.ListN.{length}
-use Rattle.spread.proofs.Wide.{Spans, spans_none, spans_more, spans_all, within_none}
+use Rattle.spread.proofs.Wide.{spans_none, spans_more, spans_all, within_none}
 use Rattle.spread.proofs.widest.Goals as goal
 
 pub returns-then-n-eq0 : goal.returns-then-n-eq0

@@ -1,10 +1,6 @@
 -- `spread::widest` meets its contract.
 use Prim.Native.Nat.{◌-◌, ◌≤◌}
-use mathlib.Core.Path.{◌≡◌}
-use borrow.Author.Rules.{rules}
-use native.Mathlib.Omega.{arith}
-use lib.ListN.{length}
-use Rattle.spread.proofs.Wide.{Spans, spans_none, spans_more, spans_all, within_none}
+use Rattle.spread.proofs.Wide.{Spans}
 use Rattle.spread.proofs.widest.Given as goal
 
 abbrev pub invariant-loop-i : goal.invariant-loop-i
