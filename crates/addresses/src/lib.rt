@@ -2,6 +2,7 @@
 // and how it lies there only the table knows. Every function is total: any numbers and any contents of the block are answered or
 // refused, and after a refusal the block is word for word as it was.
 #![tactic(auto)]
+
 ghost use Rattle.std.specs.Prelude.{◌≡◌, ◌+◌, ◌<◌, length};
 ghost use Rattle.ranges.specs.Request.{Proper};
 ghost use Rattle.table.specs.Held.{words_for};

@@ -1,5 +1,6 @@
 // Asks whether an id is granted now, as a line wants it: with no claim it is told, with a claim the claim is judged. Nothing changes.
 #![tactic(auto)]
+
 ghost use Rattle.asked.specs.Asked.{asks_for, use_wants, OnUse};
 
 use claims::Claim;

@@ -2,6 +2,7 @@
 // the level below is full. The lowest bit that is 0 is found in one step a level. What the bits stand
 // for is not known here. Every function is total: the words may hold anything and be too few.
 #![tactic(auto)]
+
 ghost use Rattle.std.specs.Prelude.{◌≡◌, ℕ, ◌%◌, ◌≤◌, ◌<◌, ◌+◌, length, get_or};
 ghost use Rattle.ranges.specs.Align.{Decides};
 ghost use Rattle.bits.specs.Bits.{bit, LowOnes, Toggled, Finds, Flips, Takes, Clears, Zeros};

@@ -1,6 +1,7 @@
 // How a table's ranges lie in blocks of lent words, and what is looked up there. The table alone calls this; what its header
 // showed is asked for, and what depends on the rest of the words is promised where they are a table's.
 #![tactic(auto)]
+
 ghost use Rattle.std.specs.Prelude.{◌≡◌, ◌+◌, ◌-◌, ◌*◌, ◌<◌, ◌≤◌, length, get_or};
 ghost use Rattle.cells.specs.Cells.{Passed, Locates};
 ghost use Rattle.places.specs.Places.{SearchUp, SearchDown};

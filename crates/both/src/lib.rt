@@ -2,6 +2,7 @@
 // back, so that every block holds just the state from before; the answer says which was refused, and why. The id is asked for last:
 // an id that was granted once leaves a trace (it is no longer "never allocated"), a range that is given back leaves none.
 #![tactic(auto)]
+
 ghost use Rattle.both.specs.Both.{Asks, Returns, Pairs, Triples};
 
 use addresses::Answer;

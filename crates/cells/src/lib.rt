@@ -1,5 +1,6 @@
 // Looking an address up in a stretch of starts: eight at a time, then one by one, and with no branch that goes by what is read.
 #![tactic(auto)]
+
 ghost use Rattle.std.specs.Prelude.{◌≡◌, ◌≤◌, ◌<◌, min, length, get_or};
 ghost use Rattle.cells.specs.Cells.{Stepped, Passed, Locates};
 

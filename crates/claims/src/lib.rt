@@ -1,5 +1,6 @@
 // The claim at the end of a line: nothing, or `=>` and an answer.
 #![tactic(auto)]
+
 ghost use Rattle.std.specs.Prelude.{◌≡◌};
 ghost use Rattle.claims.specs.Claims.{reason_at, reason_more_at, claim_at, said_at, answer_at, closed_at};
 

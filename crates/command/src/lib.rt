@@ -2,6 +2,7 @@
 // words, a window as text, and the bar of a picture.
 // Every function is total, as in the crates that it calls.
 #![tactic(auto)]
+
 ghost use Rattle.std.specs.Prelude.{◌≡◌};
 ghost use Rattle.text.specs.Stored.{Puts};
 ghost use Rattle.script.specs.Grammar.{line_of};

@@ -1,6 +1,7 @@
 // A copy of an address allocator in another lent block, to try things on: it holds the same pool, with the same limit or a larger one.
 // Made of the public operations alone: the source is walked range by range, and each granted range is asked for in the copy, just so.
 #![tactic(auto)]
+
 ghost use Rattle.std.specs.Prelude.{◌≤◌};
 ghost use Rattle.copied.specs.Copy.{Copies};
 ghost use Rattle.copied.specs.Steps.{Placed, Carries, Fills, Measures};

@@ -1,6 +1,7 @@
 // A copy of an id allocator in another lent block: it holds the same state. The words that the interval needs are taken over one by
 // one; that they are all that counts is a law of `ids` (`holds-words`), and nothing else of how they lie is known here.
 #![tactic(auto)]
+
 ghost use Rattle.std.specs.Prelude.{◌≤◌, length};
 ghost use Rattle.copied_ids.specs.Copy.{Begins, Copies};
 

@@ -2,6 +2,7 @@
 // what is wrong and where; and a window as text, which reads back as itself.
 // Nothing is demanded of the line, nor of the place.
 #![tactic(auto)]
+
 ghost use Rattle.std.specs.Prelude.{◌≡◌, ◌≤◌, length};
 ghost use Rattle.fields.specs.Fields.{name_at, number_in, number_at, id_at, window_at, policy_at};
 

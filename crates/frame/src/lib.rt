@@ -1,6 +1,7 @@
 // The frame of a saved allocator: a kind, a version, three numbers, how many words, a check of these; then the words, and a check of
 // all. Every public function is total: it demands nothing of its caller.
 #![tactic(auto)]
+
 ghost use Rattle.std.specs.Prelude.{◌≡◌, ◌+◌, ◌*◌, ◌<◌, ◌≤◌, length};
 ghost use Rattle.octets.specs.Octets.{word, check as check_of, Puts};
 ghost use Rattle.frame.specs.Frame.{Opens, Seals};

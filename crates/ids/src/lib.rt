@@ -2,6 +2,7 @@
 // mark, low, high and next), then a bit for each id, then summaries, so that the lowest free id is found
 // in one step for each level of 64 words. Every public function is total: it has no `requires`.
 #![tactic(auto)]
+
 ghost use Rattle.std.specs.Prelude.{◌≡◌, max};
 ghost use Rattle.ids.specs.Runs.{Allocate, Release};
 ghost use Rattle.ids.specs.Layout.{LastBit};

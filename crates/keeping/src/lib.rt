@@ -1,6 +1,7 @@
 // The lines that save an allocator to a file or load it from one.
 // Nothing is demanded of the line, nor of the place.
 #![tactic(auto)]
+
 ghost use Rattle.std.specs.Prelude.{◌≡◌};
 ghost use Rattle.text.specs.Words.{word_is};
 ghost use Rattle.keeping.specs.Keeping.{way_text, join_text, file_at, joined_at, named_at, kept_of};

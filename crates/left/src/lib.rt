@@ -1,6 +1,7 @@
 // What is left of a pool: how many of its addresses are free, and the size of its largest free range. Asking changes nothing: the
 // block is lent to be read. A pool has at most 2^64 - 1 addresses, so that both numbers fit; no sum wraps, whatever the block holds.
 #![tactic(auto)]
+
 ghost use Rattle.left.specs.Contract.{Tells};
 ghost use Rattle.left.specs.Steps.{Passes};
 

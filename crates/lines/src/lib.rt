@@ -1,6 +1,7 @@
 // What a line says, and the lines that are no operation: they declare something, show it, or speak of the lines that follow.
 // Nothing is demanded of the line, nor of the place.
 #![tactic(auto)]
+
 ghost use Rattle.std.specs.Prelude.{◌≡◌};
 ghost use Rattle.lines.specs.Lines.{pool_at, limit_at, ids_at, show_at, together_at, ended_at, other_of};
 

@@ -1,6 +1,7 @@
 // An address allocator read from bytes into a lent block. All bytes are looked at before the first word of the block is changed; then
 // the pool is made, and each granted range is asked for in it, just so. Every public function is total: it demands nothing of its caller.
 #![tactic(auto)]
+
 ghost use Rattle.std.specs.Prelude.{◌≡◌, ◌+◌, ◌*◌, ◌<◌, ◌≤◌, length};
 ghost use Rattle.octets.specs.Octets.{word};
 ghost use Rattle.frame.specs.Frame.{Frame};

@@ -1,6 +1,7 @@
 // An id allocator read from bytes into a lent block. All bytes are looked at before the first word of the block is changed; then the
 // allocator is made, its ids up to the next new one are granted, and the freed ones given back. Every public function is total.
 #![tactic(auto)]
+
 ghost use Rattle.std.specs.Prelude.{◌≡◌, ℕ, ◌+◌, ◌*◌, ◌^◌, ◌<◌, ◌≤◌, length};
 ghost use Rattle.octets.specs.Octets.{word};
 ghost use Rattle.frame.specs.Frame.{Frame};

@@ -1,5 +1,6 @@
 // A granted range given back: it becomes free, and one with the free ranges beside it, across a block's border too. The table alone calls this.
 #![tactic(auto)]
+
 ghost use Rattle.std.specs.Prelude.{◌≡◌, ◌+◌, ◌<◌, ◌≤◌, get_or};
 ghost use Rattle.blocks.specs.Blocks.{blocks_of, size_at, starts_at, past_at, index, Sound, Ready};
 ghost use Rattle.melting.specs.Melting.{FreeBefore, Almost, Given, Absorbed, Melted};

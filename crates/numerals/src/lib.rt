@@ -1,6 +1,7 @@
 // Numerals: a text to the 64-bit number that it means, and a number to its text.
 // Every public function is total: it demands nothing of its caller.
 #![tactic(auto)]
+
 ghost use Rattle.std.specs.Prelude.{◌≡◌, ℕ, ◌+◌, ◌*◌, ◌^◌, ◌<◌, ◌≤◌, length, take, drop, ◌++◌};
 ghost use Rattle.numerals.specs.Numeral.{is_hex, digits, fitted, read as read_of};
 ghost use Rattle.numerals.specs.Numeral.{digit as digit_of};

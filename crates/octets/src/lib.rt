@@ -1,6 +1,7 @@
 // Words in lent bytes, eight bytes each with the least first, and a check of the first words.
 // Every public function is total: it demands nothing of its caller.
 #![tactic(auto)]
+
 ghost use Rattle.std.specs.Prelude.{◌≡◌, ◌+◌, ◌*◌, ◌%◌, ◌^◌, ◌<◌, ◌≤◌, length};
 ghost use Rattle.octets.specs.Octets.{two, four, eight, Stores, Gets, Puts, Checks};
 

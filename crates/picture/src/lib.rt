@@ -1,6 +1,7 @@
 // The bar of a picture of a pool: a cell for each part of the pool, painted a stretch at a time.
 // Both functions are total: they demand nothing of their caller.
 #![tactic(auto)]
+
 ghost use Rattle.std.specs.Prelude.{◌≡◌, ℕ, ◌+◌, ◌≤◌, ◌<◌, ◌^◌};
 ghost use Rattle.picture.specs.Bar.{Painted, Cleared, joined, size_of, Touched};
 

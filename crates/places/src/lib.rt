@@ -1,6 +1,7 @@
 // Where a window of addresses fits: into one free range, and into the lowest or the highest of a row of ranges that has room.
 // A window has more + 1 addresses and starts at a multiple of mask + 1, a power of two: so no number here can be out of bounds.
 #![tactic(auto)]
+
 ghost use Rattle.places.specs.Places.{FitsLow, FitsHigh, SearchUp, SearchDown, Spans, LowAt, HighAt, Narrow};
 ghost use Rattle.std.specs.Prelude.{◌≡◌, ◌+◌, ◌<◌, ◌≤◌, length};
 

@@ -2,6 +2,7 @@
 // told, and the block goes on from the claimed state where that can be, and otherwise from the state before.
 // Every function is total: any numbers, any claim and any contents of the block are answered.
 #![tactic(auto)]
+
 ghost use Rattle.std.specs.Prelude.{◌≡◌};
 ghost use Rattle.ranges.specs.Align.{Decides};
 ghost use Rattle.addresses.specs.Contract.{asking, returning};

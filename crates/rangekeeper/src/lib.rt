@@ -3,4 +3,5 @@
 // of the block are answered or refused. A function that changes anything returns a reason, 0 for done, and writes to an out-parameter only
 // then: after a refusal block and out-parameters are as they were.
 #![tactic(auto)]
+
 pub mod address;

@@ -1,4 +1,5 @@
 // The names of the id allocator that C and Rust link against: thin, total, and each with the contract of what it calls. They go into the
 // same archive as those of `rangekeeper`, and keep its rules.
 #![tactic(auto)]
+
 pub mod id;

@@ -2,5 +2,6 @@
 // They go into the same archive as those of `rangekeeper`, and keep its rules, but that a load says in its out-parameter where a flaw
 // of the bytes stands.
 #![tactic(auto)]
+
 pub mod saved_address;
 pub mod saved_id;

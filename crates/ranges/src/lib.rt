@@ -1,6 +1,7 @@
 // Closed ranges of addresses, rounding to an alignment, requests for ranges, and the reasons of refusals.
 // Every function is total: it demands nothing of its caller, and what it refuses could not be had.
 #![tactic(auto)]
+
 ghost use Rattle.std.specs.Prelude.{◌≡◌};
 ghost use Rattle.ranges.specs.Align.{Decides, PowerOfTwo, RoundedDown, RoundedUp};
 ghost use Rattle.ranges.specs.Range.{Overlap, Contains, Counts, MakesRange};

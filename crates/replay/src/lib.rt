@@ -1,6 +1,7 @@
 // Carries a line's operation out on a lent block: with no claim it is answered, with a claim the claim is judged.
 // Every function is total: a line that is no operation of the block's kind, or claims what its operation cannot answer, changes nothing.
 #![tactic(auto)]
+
 ghost use Rattle.replay.specs.Wanted.{pool_wants, pool_allocates, pool_frees, id_wants, id_allocates, id_frees};
 ghost use Rattle.replay.specs.Replayed.{OnPool, OnIds};
 

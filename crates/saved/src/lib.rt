@@ -1,6 +1,7 @@
 // An address allocator written into lent bytes, to be read again by `loaded`. The block is walked range by range by the allocator's
 // public functions alone. Every public function is total: it demands nothing of its caller.
 #![tactic(auto)]
+
 ghost use Rattle.std.specs.Prelude.{◌≡◌, ◌+◌, ◌*◌, ◌≤◌, length};
 ghost use Rattle.addresses.specs.Contract.{Says};
 ghost use Rattle.saved.specs.Format.{size};

@@ -1,6 +1,7 @@
 // An id allocator written into lent bytes, to be read again by `loaded_ids`. The block is asked id by id, by the allocator's public
 // functions alone. Every public function is total: it demands nothing of its caller.
 #![tactic(auto)]
+
 ghost use Rattle.std.specs.Prelude.{◌≡◌, ◌+◌, ◌*◌, ◌^◌, ◌<◌, ◌≤◌, length};
 ghost use Rattle.saved_ids.specs.Contract.{Saves, Sizes};
 ghost use Rattle.saved_ids.specs.Steps.{Ones, Counts, Measures, Notes, Lists};

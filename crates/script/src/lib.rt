@@ -1,6 +1,7 @@
 // A line of a script: the operation that it asks for, what else it says, or what is wrong with it and where.
 // Nothing is demanded of the line: any bytes say something or are refused.
 #![tactic(auto)]
+
 ghost use Rattle.std.specs.Prelude.{◌≡◌};
 ghost use Rattle.script.specs.Grammar.{line_of};
 

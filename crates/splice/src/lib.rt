@@ -1,5 +1,6 @@
 // Changes of one block: a range written, ranges put in or taken out, and a window cut out of a free range. The table's other parts alone call this.
 #![tactic(auto)]
+
 ghost use Rattle.std.specs.Prelude.{◌≡◌, [], ◌∷◌, ◌+◌, ◌-◌, ◌<◌, ◌≤◌, length};
 ghost use Rattle.blocks.specs.Blocks.{count_of, blocks_of, limit_of, size_at, Sound};
 ghost use Rattle.splice.specs.Splice.{Widened, Narrowed, Spliced, Grown, Window, Carved, Cut};

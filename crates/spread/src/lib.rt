@@ -1,5 +1,6 @@
 // The bounds of blocks, and spreading the ranges over the blocks anew. The table's other parts alone call this.
 #![tactic(auto)]
+
 ghost use Rattle.std.specs.Prelude.{◌≡◌, ◌+◌, ◌*◌, ◌<◌, ◌≤◌, length};
 ghost use Rattle.blocks.specs.Blocks.{room_of, count_of, blocks_of, sizes, starts_of, tags_of, Within, Sound};
 ghost use Rattle.spread.specs.Spread.{Tightened, Trimmed, Copied, Apart, Gathered, Dealt, Laid, Turned, Nearly, Covered};

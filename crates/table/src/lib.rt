@@ -1,6 +1,7 @@
 // The table of a pool's ranges, free and granted, in one lent block of words.
 // Every function is total: any numbers and any contents are answered or refused, and a refusal leaves the block as it was.
 #![tactic(auto)]
+
 ghost use Rattle.std.specs.Prelude.{◌≡◌, ◌+◌, ◌<◌, length};
 ghost use Rattle.table.specs.Held.{words_for};
 ghost use Rattle.blocks.specs.Blocks.{Sound, blocks_of};

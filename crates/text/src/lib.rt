@@ -1,6 +1,7 @@
 // Text in bytes: the words of a line, and a text put into lent bytes.
 // Every function is total: it demands nothing of its caller, and no place is beyond the end.
 #![tactic(auto)]
+
 ghost use Rattle.std.specs.Prelude.{◌≡◌, ℕ, ◌+◌, ◌≤◌, ◌<◌, length, take, drop, ◌++◌};
 ghost use Rattle.text.specs.Words.{is_in, is_blank, is_solid, is_undotted, is_named, is_from, Scanned, start_of, end_of, no_word, word_is, dotted};
 ghost use Rattle.text.specs.Words.{same as same_of};

@@ -1,5 +1,6 @@
 // What became of a line on a block, in five words for C: what happened, the right answer, and why the block did not go on from a claim.
 #![tactic(auto)]
+
 ghost use Rattle.std.specs.Prelude.{◌≡◌};
 ghost use Rattle.told.specs.Told.{answer_of, verdict_of, pool_of, id_answer_of, id_verdict_of, ids_of, use_of, yes_of};
 

@@ -1,5 +1,6 @@
 // The words of the language of scripts: whether the next word of a line is one of them.
 #![tactic(auto)]
+
 ghost use Rattle.std.specs.Prelude.{◌≡◌};
 ghost use Rattle.text.specs.Words.{word_is};
 ghost use Rattle.vocabulary.specs.Spelling.{word_text, reason_text};
