@@ -4,10 +4,10 @@
 --     settle_right, settle_wrong, audited        the verdict
 --     hinders_not                                a claim that the block does not go on from is none that it could go on from
 -- Assumes nothing.
-use Prim.Native.Nat.{ℕ, ◌+◌, ◌≤◌, ◌<◌, max}
+use Prim.Native.Nat.{ℕ, ◌+◌, ◌<◌, max}
 use mathlib.Core.Path.{◌≡◌, refl, sym, ◌∙◌, ap, subst}
-use mathlib.Core.Bool.{Bool, true, false, not, ◌&&◌, ◌||◌}
-use mathlib.Core.Logic.{◌⊎◌, inl, inr, ⊎_elim}
+use mathlib.Core.Bool.{true, false, not, ◌&&◌, ◌||◌}
+use mathlib.Core.Logic.{⊎_elim}
 use mathlib.Core.List.{List}
 use native.Mathlib.Decide.{ℕ_discrete}
 use native.Mathlib.Omega.{arith}
@@ -16,9 +16,9 @@ use borrow.Author.Tests.{eq-eqb, ne_eqb}
 use Rattle.ranges.specs.declared.Error.{Error}
 use Rattle.ids.specs.declared.Answer.{Answer}
 use Rattle.ids.specs.declared.Answer.TheVariants.{Id, Refused}
-use Rattle.ids.specs.State.{State, Free, Within, grant, release, Allocates, Frees, allocated, freed}
-use Rattle.ids.specs.Runs.{Operation, Allocate, Release, Does, after}
-use Rattle.ids.specs.Exact.{Asks, Just, Takes}
+use Rattle.ids.specs.State.{State, grant, release, Allocates, Frees, allocated, freed}
+use Rattle.ids.specs.Runs.{Operation, Allocate, Release, Does}
+use Rattle.ids.specs.Exact.{Asks, Takes}
 use Rattle.ids.specs.Held.{Holds}
 use Rattle.ids.specs.Contract.{Performs}
 use Rattle.ids.proofs.Unique.{does_one}

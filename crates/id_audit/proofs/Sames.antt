@@ -1,6 +1,6 @@
 -- Whether two answers are the same, by their parts. Assumes nothing.
 use Prim.Native.Nat.{ℕ, ◌≤◌}
-use mathlib.Core.Path.{◌≡◌, refl, sym, ◌∙◌, ap}
+use mathlib.Core.Path.{◌≡◌, sym, ◌∙◌, ap}
 use native.Mathlib.Omega.{arith}
 use native.Mathlib.Decide.{dec_le}
 use lib.Dec.{eqb}

@@ -1,17 +1,17 @@
 -- Calls of the functions on one block, one after the other: their answers are those of the definition (`chain_runs`), and so is what is so of them.
 -- Assumes nothing.
 use mathlib.Core.Path.{◌≡◌, refl, sym, subst}
-use mathlib.Core.Logic.{◌⊎◌, inl, inr}
+use mathlib.Core.Logic.{inl, inr}
 use mathlib.Core.List.{List, [], ◌∷◌}
 use Prim.Native.Nat.{ℕ, ◌-◌, ◌^◌}
 use native.Mathlib.Omega.{arith}
 use lib.Dec.{eqb}
 use mathlib.Core.Bool.{Bool, true, false}
 use Rattle.ranges.specs.declared.Error.{Error}
-use Rattle.ids.specs.declared.Answer.TheVariants.{Id, Refused}
+use Rattle.ids.specs.declared.Answer.TheVariants.{Refused}
 use Rattle.ids.specs.declared.Setup.TheVariants.{Ready}
 use Rattle.ids.specs.State.{State, fresh, exhausted, Frees}
-use Rattle.ids.specs.Runs.{Operation, Does, after, Event, Runs, After}
+use Rattle.ids.specs.Runs.{Operation, after, Event, Runs, After}
 use Rattle.ids.specs.Runs.Operation.{Allocate, Release}
 use Rattle.ids.specs.Held.{Holds}
 use Rattle.ids.specs.Contract.{Makes, Performs, Chain}

@@ -4,7 +4,7 @@
 use mathlib.Core.Path.{◌≡◌, refl, sym, ap, ◌∙◌, subst}
 use mathlib.Core.Logic.{inl, inr}
 use mathlib.Core.List.{List}
-use Prim.Native.Nat.{ℕ, zero, suc, ◌+◌, ◌-◌, ◌/◌, ◌%◌, ◌^◌, ◌≤◌, ◌<◌}
+use Prim.Native.Nat.{ℕ, zero, suc, ◌+◌, ◌-◌, ◌/◌, ◌%◌, ◌≤◌, ◌<◌}
 use native.Mathlib.Omega.{arith}
 use lib.ListN.{length, get_or, drop, length-drop}
 use lib.Seq.{get_or-drop}
@@ -13,7 +13,7 @@ use Rattle.bits.specs.Bits.Words.{one, more}
 use Rattle.bits.proofs.Levels.{bit_in}
 use Rattle.bits.proofs.Rooms.{words_unique, words_level}
 use Rattle.ids.specs.State.{State}
-use Rattle.ids.specs.Layout.{Headed, Laid, Holds, Needs}
+use Rattle.ids.specs.Layout.{Headed, Holds, Needs}
 
 -- the first k words are the same
 abbrev pub Begins : ℕ → List ℕ → List ℕ → Type 0

@@ -5,8 +5,8 @@
 --     runs_some, runs_one  a list of operations has exactly one list of answers
 -- Assumes nothing.
 use mathlib.Core.Path.{◌≡◌, refl, sym, ap, ap₂, ◌∙◌, subst}
-use mathlib.Core.Logic.{◌⊎◌, inl, inr, ⊎_elim}
-use mathlib.Core.Bool.{Bool, true, false, not, ◌&&◌, ◌||◌}
+use mathlib.Core.Logic.{inl, inr, ⊎_elim}
+use mathlib.Core.Bool.{Bool, not, ◌&&◌, ◌||◌}
 use mathlib.Core.List.{List, [], ◌∷◌}
 use Prim.Native.Nat.{ℕ, ◌+◌, ◌-◌, ◌^◌, ◌≤◌, ◌<◌, max}
 use native.Mathlib.Nat.{le_antisymm}
@@ -15,7 +15,7 @@ use lib.Dec.{eqb}
 use Rattle.ids.specs.declared.Answer.{Answer}
 use Rattle.ids.specs.declared.Answer.TheVariants.{Id, Refused}
 use Rattle.ids.specs.State.{State, Within, Free, fresh, exhausted, Allocates, Frees}
-use Rattle.ids.specs.Runs.{Operation, Does, after, Event, event, Runs, Ever, Out, After, Alike, questions, SameFuture}
+use Rattle.ids.specs.Runs.{Operation, Does, after, Event, event, Runs, Ever, Out, Alike, questions, SameFuture}
 use Rattle.ids.specs.Runs.Operation.{Allocate, Release}
 use Rattle.ids.proofs.Tests.{order, same_bool}
 use Rattle.ids.proofs.Unique.{allocates_one, does_one, does_some}

@@ -5,17 +5,17 @@ use mathlib.Core.Path.{◌≡◌, refl, sym, ap, ◌∙◌, subst}
 use mathlib.Core.Logic.{◌⊎◌, inl, inr, ⊎_elim}
 use mathlib.Core.Bool.{Bool, true, false, not, ◌&&◌, ◌||◌}
 use mathlib.Core.List.{List, [], ◌∷◌, ◌++◌}
-use Prim.Native.Nat.{ℕ, ◌+◌, ◌≤◌, ◌<◌}
+use Prim.Native.Nat.{ℕ, ◌<◌}
 use native.Mathlib.Omega.{arith}
 use borrow.Author.Tests.{eqb-true, eq-eqb, ne_eqb}
 use lib.Dec.{eqb}
 use Rattle.bits.proofs.Levels.{same?}
-use Rattle.ids.specs.declared.Answer.TheVariants.{Id, Refused}
+use Rattle.ids.specs.declared.Answer.TheVariants.{Id}
 use Rattle.ids.specs.Runs.{Event, event, Grants, Returns}
 use Rattle.ids.specs.Runs.Operation.{Allocate, Release}
 use Rattle.ids.specs.NeverTwice.{GivenBack, NeverTwice}
 use Rattle.ids.specs.Ledger.{Ledger, start, Before, NotAbove, Turn, again, first, freed, refused, Turns, none, more}
-use Rattle.ids.proofs.Tests.{or_true, and_true, false_true, same_id, not_refused, release_allocate, is_either, not_true}
+use Rattle.ids.proofs.Tests.{or_true, and_true, false_true, same_id, not_refused, release_allocate}
 
 -- what was given back was granted before
 abbrev Fair : Ledger → Type 0

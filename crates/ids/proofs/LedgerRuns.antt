@@ -5,18 +5,18 @@ use mathlib.Core.Path.{◌≡◌, refl, sym, ap, ◌∙◌, subst}
 use mathlib.Core.Logic.{◌⊎◌, inl, inr, ⊎_elim}
 use mathlib.Core.Bool.{Bool, true, false, not, ◌&&◌, ◌||◌}
 use mathlib.Core.List.{List, [], ◌∷◌}
-use Prim.Native.Nat.{ℕ, suc, ◌+◌, ◌≤◌, ◌<◌, max}
+use Prim.Native.Nat.{ℕ, ◌+◌, ◌≤◌, ◌<◌}
 use native.Mathlib.Omega.{arith}
-use borrow.Author.Tests.{eqb-true, eq-eqb, ne_eqb}
+use borrow.Author.Tests.{eqb-true, eq-eqb}
 use lib.Dec.{eqb}
 use Rattle.bits.proofs.Levels.{same?}
 use Rattle.ids.specs.declared.Answer.{Answer}
 use Rattle.ids.specs.declared.Answer.TheVariants.{Id, Refused}
-use Rattle.ids.specs.State.{State, Free, fresh, Allocates, Frees}
+use Rattle.ids.specs.State.{State, fresh, Allocates, Frees}
 use Rattle.ids.specs.Runs.{Operation, Does, after, Event, event, Runs, Valid}
 use Rattle.ids.specs.Runs.Operation.{Allocate, Release}
 use Rattle.ids.specs.Ledger.{Ledger, start, Before, Turn, again, first, freed, refused, Turns, none, more}
-use Rattle.ids.proofs.Tests.{order, or_true, and_true, and_first, and_both, or_left, or_right, false_true, is_either, not_true}
+use Rattle.ids.proofs.Tests.{order, or_true, and_true, and_first, and_both, or_left, or_right, false_true, not_true}
 use Rattle.ids.proofs.Validity.{valid_fresh, valid_allocated, valid_freed, at_most_next}
 use Rattle.ids.proofs.LedgerLaws.{or_false, and_false, taken_false}
 

@@ -3,6 +3,7 @@ pub mod States
 pub mod Zeros
 pub mod Fresh
 pub mod Refusals
+pub mod LastBits
 pub mod Validity
 pub mod Unique
 pub mod RunLaws

@@ -2,12 +2,12 @@
 -- Assumes nothing.
 use mathlib.Core.Path.{◌≡◌, refl, subst}
 use mathlib.Core.List.{List}
-use Prim.Native.Nat.{ℕ, ◌-◌, ◌≤◌}
+use Prim.Native.Nat.{ℕ, ◌-◌}
 use lib.ListN.{length, get_or}
 use Rattle.ranges.specs.declared.Error.{Error}
-use Rattle.ids.specs.declared.Answer.TheVariants.{Id, Refused}
+use Rattle.ids.specs.declared.Answer.TheVariants.{Refused}
 use Rattle.ids.specs.declared.Last.{Last}
-use Rattle.ids.specs.declared.Last.TheVariants.{Bit, Missing}
+use Rattle.ids.specs.declared.Last.TheVariants.{Missing}
 use Rattle.ids.specs.State.{State}
 use Rattle.ids.specs.Runs.{Operation}
 use Rattle.ids.specs.Layout.{Headed, LastBit, Laid, Holds}

@@ -3,20 +3,18 @@
 --     out_true, out_back        granted is what was handed out and not given back since
 --     ever_below, below_ever    the ids below next are those that were ever handed out
 -- Assumes nothing.
-use mathlib.Core.Path.{◌≡◌, refl, sym, ap, ap₂, ◌∙◌, subst}
+use mathlib.Core.Path.{◌≡◌, refl, sym, ap, ◌∙◌, subst}
 use mathlib.Core.Logic.{◌⊎◌, inl, inr, ⊎_elim}
-use mathlib.Core.Bool.{Bool, true, false, not, ◌&&◌, ◌||◌}
+use mathlib.Core.Bool.{true, false, not}
 use mathlib.Core.List.{List, [], ◌∷◌, ◌++◌}
-use Prim.Native.Nat.{ℕ, zero, suc, ◌+◌, ◌≤◌, ◌<◌, max}
+use Prim.Native.Nat.{ℕ, ◌≤◌, ◌<◌}
 use native.Mathlib.Omega.{arith}
 use borrow.Author.Tests.{eqb-true, eq-eqb, ne_eqb}
 use lib.Dec.{eqb}
-use Rattle.ranges.specs.Align.{Decides}
-use Rattle.ranges.specs.declared.Error.{Error}
 use Rattle.ids.specs.declared.Answer.{Answer}
 use Rattle.ids.specs.declared.Answer.TheVariants.{Id, Refused}
-use Rattle.ids.specs.State.{State, Within, Free, fresh, Allocates}
-use Rattle.ids.specs.Runs.{Operation, Does, after, Event, Runs, Grants, Returns, Ever, Stays, Out, Valid, After}
+use Rattle.ids.specs.State.{State, fresh, Allocates}
+use Rattle.ids.specs.Runs.{Operation, Does, after, Event, Runs, Grants, Ever, Stays, Out, Valid, After}
 use Rattle.ids.specs.Runs.Operation.{Allocate, Release}
 use Rattle.ids.proofs.Tests.{order, or_true, and_true, or_left, or_right, and_first, and_both, allocate_release, release_allocate, not_refused, same_id, decided, false_true, is_either}
 use Rattle.ids.proofs.Validity.{valid_fresh, valid_allocated, valid_freed, at_most_next}

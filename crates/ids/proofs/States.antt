@@ -3,10 +3,10 @@
 --     laid_grant, laid_release    the memory after a grant and after a release
 -- Assumes nothing.
 use mathlib.Core.Path.{◌≡◌, refl, sym, ap, ap₂, ◌∙◌, subst}
-use mathlib.Core.Logic.{◌⊎◌, inl, inr, ⊎_elim}
+use mathlib.Core.Logic.{⊎_elim}
 use mathlib.Core.Bool.{Bool, true, false, not, ◌&&◌, ◌||◌}
 use mathlib.Core.List.{List, ◌++◌}
-use Prim.Native.Nat.{ℕ, zero, suc, ◌+◌, ◌-◌, ◌*◌, ◌/◌, ◌%◌, ◌^◌, ◌≤◌, ◌<◌, max}
+use Prim.Native.Nat.{ℕ, suc, ◌+◌, ◌-◌, ◌≤◌, ◌<◌, max}
 use native.Mathlib.Nat.{lt_of_not-le}
 use native.Mathlib.Omega.{arith}
 use lib.Dec.{eqb}
@@ -15,12 +15,12 @@ use lib.Seq.{get_or-set_same, get_or-set_other, drop-set-lt, length-take-le, set
 use borrow.Author.Tests.{eq-eqb, ne_eqb}
 use borrow.Rule.Slice.PartMut.{mid_of}
 use Rattle.ranges.specs.Align.{Decides}
-use Rattle.bits.specs.Bits.{bit, Summed, Lowest, Flipped, Finds, Flips}
+use Rattle.bits.specs.Bits.{bit, Summed, Lowest, Flipped}
 use Rattle.bits.proofs.Levels.{same?, front_kept, back_there, mid_tail}
 use Rattle.bits.proofs.Rooms.{summed_words}
-use Rattle.ids.specs.declared.Answer.TheVariants.{Id, Refused}
+use Rattle.ids.specs.declared.Answer.TheVariants.{Id}
 use Rattle.ids.specs.State.{State, Within, Free, grant, release, Allocates}
-use Rattle.ids.specs.Layout.{as_digit, Headed, Laid}
+use Rattle.ids.specs.Layout.{as_digit, Laid}
 
 -- a bool that decides a statement decides one that says the same
 pub decides_map : (b : Bool) {P Q : Type 0} → (P → Q) → (Q → P) → Decides b P → Decides b Q

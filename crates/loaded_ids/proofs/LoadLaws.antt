@@ -4,10 +4,10 @@
 --     good_more                               one freed id more passes the test
 --     wrong_frame, wrong_words                the two refusals of the bytes
 --     remade_short, remade                    the block is too short; it holds the state
-use Prim.Native.Nat.{ℕ, zero, suc, ◌+◌, ◌-◌, ◌*◌, ◌^◌, ◌≤◌, ◌<◌}
-use mathlib.Core.Path.{◌≡◌, refl, sym, ap, ◌∙◌, subst}
-use mathlib.Core.Logic.{◌⊎◌, ⊎_elim, inl, inr}
-use mathlib.Core.List.{List, []}
+use Prim.Native.Nat.{ℕ, ◌+◌, ◌-◌, ◌*◌, ◌≤◌, ◌<◌}
+use mathlib.Core.Path.{◌≡◌, refl, sym, ◌∙◌, subst}
+use mathlib.Core.Logic.{⊎_elim, inl, inr}
+use mathlib.Core.List.{List}
 use native.Mathlib.Omega.{arith}
 use lib.ListN.{length}
 use Rattle.octets.specs.Octets.{word}
@@ -20,19 +20,17 @@ use Rattle.frame.proofs.FrameLaws.{flawed_none, frame_same}
 use Rattle.ranges.specs.declared.Error.{Error}
 use Rattle.ids.specs.declared.Setup.{Setup}
 use Rattle.ids.specs.declared.Setup.TheVariants.{Ready, Unfit}
-use Rattle.ids.specs.State.{State, fresh}
-use Rattle.ids.specs.Runs.{Valid}
-use Rattle.ids.specs.Held.{Holds, Needs}
+use Rattle.ids.specs.State.{State}
+use Rattle.ids.specs.Held.{Needs}
 use Rattle.ids.specs.Contract.{Makes}
-use Rattle.saved_ids.specs.Format.{kind, Freed, Message}
+use Rattle.saved_ids.specs.Format.{kind, Freed}
 use Rattle.loaded_ids.proofs.StepLaws.{granted_some, given_some}
 use Rattle.loaded_ids.specs.declared.Found.{Found}
 use Rattle.loaded_ids.specs.declared.Found.TheVariants.{Fine, Wrong}
-use Rattle.loaded_ids.specs.declared.Loaded.{Loaded}
 use Rattle.loaded_ids.specs.declared.Loaded.TheVariants as loaded
 use Rattle.loaded_ids.specs.Misfits.{Misfit}
 use Rattle.loaded_ids.specs.Contract.{Begins, Loads}
-use Rattle.loaded_ids.specs.Steps.{Good, AllGood, Sensible, Tests, Full, Grants, Given, Gives}
+use Rattle.loaded_ids.specs.Steps.{Good, Sensible, Tests, Full, Grants, Given, Gives}
 
 pub tests_fine : (w : ℕ → ℕ) (r : Found) (P : Type 0) → Tests w r P → r ≡ Fine → P
 unfolding Tests

@@ -1,9 +1,9 @@
 -- Granting the lowest ids and giving the freed ones back, from the contracts of `allocate` and `free`. Assumes nothing.
 --     granted_start, granted_step     after n allocations of a fresh allocator its n lowest ids are granted
 --     given_start, given_step         after i frees the first i of the freed ids are free, and no others
-use Prim.Native.Nat.{ℕ, zero, suc, ◌+◌, ◌-◌, ◌^◌, ◌≤◌, ◌<◌, max}
+use Prim.Native.Nat.{ℕ, zero, suc, ◌+◌, ◌≤◌, ◌<◌}
 use mathlib.Core.Path.{◌≡◌, refl, sym, ap, ◌∙◌, subst}
-use mathlib.Core.Bool.{Bool, true, false, not, ◌&&◌, ◌||◌}
+use mathlib.Core.Bool.{Bool, true, false, not, ◌&&◌}
 use mathlib.Core.Logic.{◌⊎◌, ⊎_elim, inl, inr}
 use mathlib.Core.List.{List}
 use native.Mathlib.Omega.{arith}
@@ -11,16 +11,15 @@ use lib.Dec.{eqb}
 use borrow.Author.Tests.{eq-eqb, eqb-true}
 use Rattle.octets.proofs.Words.{below_or_not}
 use Rattle.ids.specs.declared.Answer.{Answer}
-use Rattle.ids.specs.declared.Answer.TheVariants.{Id, Refused}
-use Rattle.ids.specs.State.{State, Free, fresh, grant, release, Allocates, Frees}
-use Rattle.ids.specs.Runs.{Allocate, Release, Does, after, Valid}
+use Rattle.ids.specs.declared.Answer.TheVariants.{Id}
+use Rattle.ids.specs.State.{State, fresh, grant, release, Allocates, Frees}
+use Rattle.ids.specs.Runs.{Allocate, Release, after}
 use Rattle.ids.specs.Held.{Holds}
 use Rattle.ids.specs.Contract.{Performs}
 use Rattle.ids.proofs.Tests.{or_left, or_right, and_both, false_true, is_either, not_true}
 use Rattle.ids.proofs.Validity.{valid_fresh, valid_allocated, valid_freed}
 use Rattle.ids.proofs.Unique.{allocates_one, frees_one}
-use Rattle.saved_ids.specs.Format.{Freed}
-use Rattle.loaded_ids.specs.Steps.{Good, AllGood, Full, Given}
+use Rattle.loaded_ids.specs.Steps.{AllGood, Full, Given}
 
 -- ---- the lowest ids are granted
 

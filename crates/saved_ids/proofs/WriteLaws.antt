@@ -11,13 +11,12 @@ use mathlib.Core.Logic.{◌⊎◌, ⊎_elim, inl, inr}
 use mathlib.Core.List.{List}
 use native.Mathlib.Omega.{arith}
 use native.Mathlib.Numerals.{add-one}
-use lib.ListN.{length, get_or}
+use lib.ListN.{length}
 use Rattle.octets.specs.Octets.{word, Puts}
 use Rattle.octets.proofs.Words.{below_or_not, put_word}
-use Rattle.frame.specs.Frame.{Frame, Seals}
+use Rattle.frame.specs.Frame.{Seals}
 use Rattle.frame.proofs.FrameLaws.{frame_same}
 use Rattle.ids.specs.State.{State, Within}
-use Rattle.ids.specs.Runs.{Valid}
 use Rattle.ids.specs.Held.{Holds}
 use Rattle.ids.specs.Contract.{Tells, Describes}
 use Rattle.ids.specs.declared.Interval.{Interval}
@@ -28,7 +27,7 @@ use Rattle.saved_ids.specs.Format.{kind, Freed, unheld, freed_of}
 use Rattle.saved_ids.specs.declared.Saved.TheVariants.{Bytes}
 use Rattle.saved_ids.specs.declared.Extent.{Extent}
 use Rattle.saved_ids.specs.declared.Extent.TheVariants as extent
-use Rattle.saved_ids.specs.Contract.{Written, Saves, Of}
+use Rattle.saved_ids.specs.Contract.{Saves, Of}
 use Rattle.saved_ids.specs.Steps.{Ones, Spans, Counts, Measured, Measures, Notes, upto, Lists}
 
 -- ---- how many are not granted

@@ -1,7 +1,6 @@
 -- `id_audit::follow_release` meets its contract: by the answer of the operation that goes on from the claim.
-use borrow.Author.Rules.{rules}
-use mathlib.Core.Path.{◌≡◌, refl, sym, ap, subst, ◌∙◌}
-use Rattle.ids.specs.Runs.{Allocate, Release}
+use mathlib.Core.Path.{ap}
+use Rattle.ids.specs.Runs.{Release}
 use Rattle.id_audit.proofs.Claimed.{outcome, release_told, nothing_told}
 use Rattle.id_audit.proofs.follow_release.Goals as goal
 

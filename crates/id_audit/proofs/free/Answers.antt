@@ -1,5 +1,4 @@
 -- `id_audit::free` meets its contract: the operation, then the verdict.
-use borrow.Author.Rules.{rules}
 use Rattle.id_audit.proofs.Claimed.{audited}
 use Rattle.id_audit.proofs.free.Goals as goal
 

@@ -1,6 +1,5 @@
 -- `id_audit::same` meets its contract: by the parts of the answers.
-use borrow.Author.Rules.{rules}
-use mathlib.Core.Path.{◌≡◌, refl, sym, ap, subst, ◌∙◌}
+use mathlib.Core.Path.{◌≡◌}
 use Prim.Native.Nat.{ℕ}
 use native.Mathlib.Omega.{arith}
 use Rattle.id_audit.proofs.Sames.{id_same, refused_same}

@@ -1,6 +1,5 @@
 -- `id_audit::settle` meets its contract: the same answer is right; of another the steps give the verdict.
-use borrow.Author.Rules.{rules}
-use mathlib.Core.Path.{◌≡◌, refl, sym, ap, subst, ◌∙◌}
+use mathlib.Core.Path.{◌≡◌, subst}
 use Rattle.ranges.specs.Align.{Decides}
 use Rattle.id_audit.specs.declared.Taken.{Taken}
 use Rattle.id_audit.specs.Steps.{Settles}
@@ -14,4 +13,4 @@ pub returns-in-Done : goal.returns-in-Done
 returns-in-Done c = subst (λ (t : Taken). Settles c.args.mem.now c.args.answer c.args.claim (verdict c.args.answer t) c.follow_release-taken.new.mem) c.in-Done.is (settle_wrong c.args.mem.now c.undo.new.mem c.follow_release-taken.new.mem c.args.answer c.args.claim c.follow_release-taken.result (subst (λ b. Decides b (c.args.answer ≡ c.args.claim)) c.if-same.false c.same.ensures) c.undo.ensures c.follow_release-taken.ensures)
 
 pub returns-in-Hindered : goal.returns-in-Hindered
-returns-in-Hindered c = subst (λ (t : Taken). Settles c.args.mem.now c.args.answer c.args.claim (verdict c.args.answer t) c.follow_release-taken.new.mem) c.true.given.1 (settle_wrong c.args.mem.now c.undo.new.mem c.follow_release-taken.new.mem c.args.answer c.args.claim c.follow_release-taken.result (subst (λ b. Decides b (c.args.answer ≡ c.args.claim)) c.if-same.false c.same.ensures) c.undo.ensures c.follow_release-taken.ensures)
+returns-in-Hindered c = subst (λ (t : Taken). Settles c.args.mem.now c.args.answer c.args.claim (verdict c.args.answer t) c.follow_release-taken.new.mem) c.in-Hindered.is (settle_wrong c.args.mem.now c.undo.new.mem c.follow_release-taken.new.mem c.args.answer c.args.claim c.follow_release-taken.result (subst (λ b. Decides b (c.args.answer ≡ c.args.claim)) c.if-same.false c.same.ensures) c.undo.ensures c.follow_release-taken.ensures)

@@ -1,6 +1,4 @@
 -- `id_audit::undo` meets its contract: the id that was taken back is granted again.
-use borrow.Author.Rules.{rules}
-use mathlib.Core.Path.{◌≡◌, refl, sym, ap, subst, ◌∙◌}
 use Rattle.id_audit.proofs.Claimed.{undo_release, undo_refused}
 use Rattle.id_audit.proofs.undo.Goals as goal
 

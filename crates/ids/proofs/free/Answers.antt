@@ -1,32 +1,19 @@
 -- `ids::free` meets its contract: each refusal by the test that led there; the id's bit says whether it is granted (`bit_decides`), and
 -- changing it releases the id (`releasing`).
 use native.Mathlib.Omega.{arith}
-use mathlib.Core.Path.{◌≡◌, refl, sym, ap, ap₂, ◌∙◌, subst}
+use mathlib.Core.Path.{refl, ap}
 use mathlib.Core.List.{List}
-use Prim.Native.Nat.{ℕ, ◌-◌, ◌≤◌}
-use lib.ListN.{length, get_or, set, length-set}
-use Rattle.ids.specs.Layout.{Headed, LastBit, Laid, Holds}
+use Prim.Native.Nat.{ℕ, ◌-◌}
+use Rattle.ids.specs.Layout.{Laid, Holds}
 use Rattle.bits.proofs.Levels.{put_tail}
 use mathlib.Core.Logic.{inl, inr}
 use Rattle.ranges.proofs.Powers.{proved, refuted}
-use Rattle.ids.specs.State.{State, Within}
+use Rattle.ids.specs.State.{Within}
 use Rattle.ids.proofs.States.{bit_decides, releasing}
 use Rattle.ids.proofs.Tests.{not_true}
 use Rattle.ids.proofs.Refusals.{no_state, no_header}
-use borrow.Author.Rules.{rules}
-use Rattle.ids.proofs.free.Goals.{In-Bit}
+use Rattle.ids.proofs.LastBits.{bit_last}
 use Rattle.ids.proofs.free.Goals as goal
-
--- the header is an id allocator's, and this is the place of its last bit
-headed : (c : In-Bit) → let m = c.args.mem.now in
-    Headed (get_or m 0 0) (get_or m 1 0) (get_or m 2 0) (length m - 4) × (c.in-Bit.last ≡ get_or m 2 0 - get_or m 1 0)
-headed c =
-    let m = c.args.mem.now in
-    subst (LastBit (get_or m 0 0) (get_or m 1 0) (get_or m 2 0) (length m - 4)) c.in-Bit.is c.last_bit.ensures
-
--- the last bit of a state that the memory holds
-last-is : (c : In-Bit) (s : State) (h : Laid c.args.mem.now s) → c.in-Bit.last ≡ s.high - s.low
-last-is c s h = (headed c).1 ∙ ap₂ (λ (a b : ℕ). a - b) h.high h.low
 
 pub returns-then-mem-lt4 : goal.returns-then-mem-lt4
 returns-then-mem-lt4 c = no_state (λ s h. omega (arith, h.long))
@@ -89,7 +76,7 @@ returns c =
           (bit_decides ws s h c.is_set.result _ a.id h.low w c.is_set.ensures) in (
             (refl, w, omega (arith, h.next), g.1),
             rw (put_tail 4 ws up)
-                (releasing ws s h _ _ a.id up (last-is (goal.at.returns c).In-Bit s h) w (ap (λ (x : ℕ). a.id - x) h.low) g.1
+                (releasing ws s h _ _ a.id up (bit_last c.args.mem.now c.last_bit.result _ c.in-Bit.is c.last_bit.ensures s h) w (ap (λ (x : ℕ). a.id - x) h.low) g.1
                 c.flip.ensures),
           );
     }

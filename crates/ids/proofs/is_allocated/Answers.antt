@@ -1,23 +1,11 @@
 -- `ids::is_allocated` meets its contract: the tests leave the ids of the interval, and an id's bit says whether it is granted (`bit_decides`).
 use native.Mathlib.Omega.{arith}
-use mathlib.Core.Path.{◌≡◌, ap₂, ◌∙◌, subst}
-use Prim.Native.Nat.{ℕ, ◌-◌}
-use lib.ListN.{length, get_or}
-use Rattle.ids.specs.State.{State, Within}
-use Rattle.ids.specs.Layout.{LastBit, Laid, Holds}
+use Rattle.ids.specs.State.{Within}
+use Rattle.ids.specs.Layout.{Laid, Holds}
 use Rattle.ids.proofs.States.{bit_decides}
 use Rattle.ids.proofs.Refusals.{none_held}
-use borrow.Author.Rules.{rules}
-use Rattle.ids.proofs.is_allocated.Goals.{In-Bit}
+use Rattle.ids.proofs.LastBits.{bit_last}
 use Rattle.ids.proofs.is_allocated.Goals as goal
-
--- the last bit of a state that the memory holds
-last-is : (c : In-Bit) (s : State) → Laid c.args.mem.now s
-    → c.in-Bit.last ≡ s.high - s.low
-last-is c s h =
-    let m = c.args.mem.now in
-    (subst (LastBit (get_or m 0 0) (get_or m 1 0) (get_or m 2 0) (length m - 4)) c.in-Bit.is c.last_bit.ensures).1
-    ∙ ap₂ (λ (a b : ℕ). a - b) h.high h.low
 
 pub returns-then-mem-lt4 : goal.returns-then-mem-lt4
 unfolding Holds
@@ -34,13 +22,13 @@ returns-then-x-low c = λ s h w. omega (arith, h.low, w.0.0)
 
 pub returns-then-last-i : goal.returns-then-last-i
 unfolding Holds
-returns-then-last-i c = λ s h w. omega (arith, h.low, w.0.1, last-is (goal.at.returns-then-last-i c).In-Bit s h)
+returns-then-last-i c = λ s h w. omega (arith, h.low, w.0.1, bit_last c.args.mem.now c.last_bit.result _ c.in-Bit.is c.last_bit.ensures s h)
 
 pub returns : goal.returns
 unfolding Holds
 returns c = λ s held.
     let a = c.args in
     let h : Laid a.mem.now s = held in
-    let l = last-is (goal.at.returns c).In-Bit s h in
+    let l = bit_last c.args.mem.now c.last_bit.result _ c.in-Bit.is c.last_bit.ensures s h in
     let w : Within s a.id = (omega (arith, h.low), omega (arith, h.low, h.head.ordered)) in
     bit_decides a.mem.now s h c.is_set.result _ a.id h.low w c.is_set.ensures

@@ -2,12 +2,11 @@
 use native.Mathlib.Omega.{arith}
 use mathlib.Core.Path.{refl}
 use Rattle.bits.proofs.Rooms.{words_unique}
-use borrow.Author.Rules.{rules}
 use Rattle.ids.proofs.last_bit.Goals as goal
 
 pub returns-then-words-room : goal.returns-then-words-room
 returns-then-words-room c = λ h.
-    let e = words_unique h.true c.room.ensures.0 in
+    let e = words_unique h.taken c.room.ensures.0 in
     omega (arith, h.enough, c.if-words-room.true)
 
 pub returns : goal.returns

@@ -10,7 +10,6 @@ use Rattle.bits.proofs.Levels.{mid_tail, put_tail}
 use Rattle.ids.specs.State.{fresh}
 use Rattle.ids.specs.Layout.{kind, Holds}
 use Rattle.ids.proofs.Fresh.{laid_fresh, needs_some}
-use borrow.Author.Rules.{rules}
 use Rattle.ids.proofs.new.Goals as goal
 
 pub returns-then-high-low : goal.returns-then-high-low

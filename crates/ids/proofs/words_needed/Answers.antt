@@ -1,8 +1,6 @@
 -- `ids::words_needed` meets its contract: `room`, and the header.
 use native.Mathlib.Omega.{arith}
-use mathlib.Core.Path.{refl}
 use Rattle.ids.proofs.Fresh.{needs_some, needs_none}
-use borrow.Author.Rules.{rules}
 use Rattle.ids.proofs.words_needed.Goals as goal
 
 pub returns-then-high-low : goal.returns-then-high-low

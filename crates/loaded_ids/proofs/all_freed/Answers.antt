@@ -1,20 +1,14 @@
 -- `loaded_ids::all_freed` meets its contract. The invariant: the ids passed are as they are to be. The measure is how many are left.
-use mathlib.Core.Path.{◌≡◌, refl, sym, ap, ◌∙◌, subst}
-use mathlib.Core.Logic.{inl, inr}
-use Rattle.loaded_ids.specs.Misfits.{Misfit}
-use borrow.Author.Rules.{rules}
-use Prim.Native.Nat.{◌-◌, ◌≤◌}
 use native.Mathlib.Omega.{arith}
-use Rattle.loaded_ids.proofs.LoadLaws.{GoodTo, good_more, tests_fine, tests_wrong}
+use Rattle.loaded_ids.proofs.LoadLaws.{good_more, tests_fine, tests_wrong}
 use Rattle.loaded_ids.specs.Steps.{Tests}
-use Rattle.octets.specs.Octets.{word}
 use Rattle.loaded_ids.proofs.all_freed.Goals as goal
 
 pub loop-i-init : goal.loop-i-init
 loop-i-init c = (omega arith, λ j l. absurd (omega arith))
 
 pub freed-found-requires : goal.freed-found-requires
-freed-found-requires c = let b = c.requires in (b.0, (omega arith, b.1))
+freed-found-requires c = let b = c.requires in record { k_in_bounds = b.k_in_bounds; i_lt_k = omega arith; heads = b.heads }
 
 pub returns-in-Wrong : goal.returns-in-Wrong
 unfolding Tests

@@ -1,12 +1,6 @@
 -- `loaded_ids::all_freed` meets its contract. The invariant: the ids passed are as they are to be. The measure is how many are left.
-use mathlib.Core.Path.{◌≡◌, refl, sym, ap, ◌∙◌, subst}
-use mathlib.Core.Logic.{inl, inr}
-use Rattle.loaded_ids.specs.Misfits.{Misfit}
-use borrow.Author.Rules.{rules}
 use Prim.Native.Nat.{◌-◌, ◌≤◌}
-use native.Mathlib.Omega.{arith}
-use Rattle.loaded_ids.proofs.LoadLaws.{GoodTo, good_more, tests_fine, tests_wrong}
-use Rattle.loaded_ids.specs.Steps.{Tests}
+use Rattle.loaded_ids.proofs.LoadLaws.{GoodTo}
 use Rattle.octets.specs.Octets.{word}
 use Rattle.loaded_ids.proofs.all_freed.Given as goal
 

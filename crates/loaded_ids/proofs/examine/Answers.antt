@@ -1,8 +1,7 @@
 -- `loaded_ids::examine` meets its contract: each test is a field of `Sensible`.
-use mathlib.Core.Path.{◌≡◌, refl, sym, ap, ◌∙◌, subst}
+use mathlib.Core.Path.{refl}
 use mathlib.Core.Logic.{inl, inr}
 use Rattle.loaded_ids.specs.Misfits.{Misfit}
-use borrow.Author.Rules.{rules}
 use native.Mathlib.Omega.{arith}
 use Rattle.loaded_ids.proofs.LoadLaws.{tests_both}
 use Rattle.octets.specs.Octets.{word}
@@ -34,7 +33,7 @@ returns-then-high-next c =
     (λ s. omega (arith, s.to, c.if-high-next.true), inr (refl, inr (omega (arith, c.if-high-next.true, f.second, f.third))))
 
 pub all_freed-requires : goal.all_freed-requires
-all_freed-requires c = let f = c.requires in (omega (arith, f.long), record { first = f.first; third = f.third; count = f.count })
+all_freed-requires c = let f = c.requires in record { k_in_bounds = omega (arith, f.long); heads = record { first = f.first; third = f.third; count = f.count } }
 
 pub returns : goal.returns
 returns c =

@@ -1,13 +1,9 @@
 -- `loaded_ids::give` meets its contract. The invariant: the first i freed ids are given back (`Given`). The measure is how many are left.
-use borrow.Author.Rules.{rules}
-use Prim.Native.Nat.{ℕ, ◌-◌, ◌≤◌}
-use mathlib.Core.Path.{◌≡◌, refl, ◌∙◌, subst}
+use Prim.Native.Nat.{ℕ}
+use mathlib.Core.Path.{refl, ◌∙◌, subst}
 use native.Mathlib.Omega.{arith}
-use lib.ListN.{length}
 use Rattle.loaded_ids.proofs.StepLaws.{given_start, given_step}
-use Rattle.loaded_ids.specs.Steps.{AllGood, Full, Given}
-use Rattle.ids.specs.State.{State}
-use Rattle.ids.specs.Held.{Holds}
+use Rattle.loaded_ids.specs.Steps.{Given}
 use Rattle.octets.specs.Octets.{word}
 use Rattle.loaded_ids.proofs.give.Goals as goal
 
@@ -15,7 +11,7 @@ pub loop-i-init : goal.loop-i-init
 loop-i-init c = (omega arith, refl, λ s low high next f g h. (s, given_start _ low high next s f, h))
 
 pub overflow_cast-id : goal.overflow_cast-id
-overflow_cast-id c = omega (arith, c.get-id.ensures (omega arith), c.requires.1 c.loop-i.i (omega arith))
+overflow_cast-id c = omega (arith, c.get-id.ensures (omega arith), c.requires.by_index c.loop-i.i (omega arith))
 
 pub loop-i-preserved : goal.loop-i-preserved
 loop-i-preserved c =
@@ -23,7 +19,7 @@ loop-i-preserved c =
     let k = c.free in
     let e = c.get-id.ensures (omega arith) in (
       omega arith,
-      k.auto.0 ∙ l.invariant.1,
+      k.auto.mem ∙ l.invariant.1,
       λ s low high next f g h. let q = l.invariant.2 s low high next f g h in given_step _ low high next _ l.i _ q.0 q.1 g (omega arith) e _ _ _ q.2 k.ensures,
     )
 

@@ -1,10 +1,7 @@
 -- `loaded_ids::give` meets its contract. The invariant: the first i freed ids are given back (`Given`). The measure is how many are left.
-use borrow.Author.Rules.{rules}
 use Prim.Native.Nat.{ℕ, ◌-◌, ◌≤◌}
-use mathlib.Core.Path.{◌≡◌, refl, ◌∙◌, subst}
-use native.Mathlib.Omega.{arith}
+use mathlib.Core.Path.{◌≡◌}
 use lib.ListN.{length}
-use Rattle.loaded_ids.proofs.StepLaws.{given_start, given_step}
 use Rattle.loaded_ids.specs.Steps.{AllGood, Full, Given}
 use Rattle.ids.specs.State.{State}
 use Rattle.ids.specs.Held.{Holds}

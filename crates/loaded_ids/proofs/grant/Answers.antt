@@ -1,13 +1,10 @@
 -- `loaded_ids::grant` meets its contract. The invariant: the i lowest ids are granted (`Full`). The measure is how many are left.
-use borrow.Author.Rules.{rules}
-use Prim.Native.Nat.{ℕ, ◌+◌, ◌-◌, ◌≤◌}
-use mathlib.Core.Path.{◌≡◌, refl, ◌∙◌, subst}
+use Prim.Native.Nat.{ℕ, ◌+◌}
+use mathlib.Core.Path.{refl, ◌∙◌, subst}
 use native.Mathlib.Omega.{arith}
-use lib.ListN.{length}
 use Rattle.loaded_ids.proofs.StepLaws.{granted_start, granted_step}
 use Rattle.loaded_ids.specs.Steps.{Full}
-use Rattle.ids.specs.State.{State, fresh}
-use Rattle.ids.specs.Held.{Holds}
+use Rattle.ids.specs.State.{fresh}
 use Rattle.loaded_ids.proofs.grant.Goals as goal
 
 pub loop-i-init : goal.loop-i-init
@@ -18,7 +15,7 @@ loop-i-preserved c =
     let l = c.loop-i in
     let k = c.allocate in (
       omega arith,
-      k.auto.0 ∙ l.invariant.1,
+      k.auto.mem ∙ l.invariant.1,
       λ low high o r h. let q = l.invariant.2 low high o r h in granted_step q.0 low high l.i q.1 (omega arith) _ _ _ q.2 k.ensures,
     )
 

@@ -1,10 +1,7 @@
 -- `loaded_ids::grant` meets its contract. The invariant: the i lowest ids are granted (`Full`). The measure is how many are left.
-use borrow.Author.Rules.{rules}
 use Prim.Native.Nat.{ℕ, ◌+◌, ◌-◌, ◌≤◌}
-use mathlib.Core.Path.{◌≡◌, refl, ◌∙◌, subst}
-use native.Mathlib.Omega.{arith}
+use mathlib.Core.Path.{◌≡◌}
 use lib.ListN.{length}
-use Rattle.loaded_ids.proofs.StepLaws.{granted_start, granted_step}
 use Rattle.loaded_ids.specs.Steps.{Full}
 use Rattle.ids.specs.State.{State, fresh}
 use Rattle.ids.specs.Held.{Holds}

@@ -1,6 +1,4 @@
 -- `loaded_ids::load` meets its contract: the frame, then the tests, then the allocator.
-use borrow.Author.Rules.{rules}
-use native.Mathlib.Omega.{arith}
 use Rattle.loaded_ids.proofs.LoadLaws.{tests_fine, tests_wrong, opens_good, opens_bad, wrong_frame, wrong_words}
 use Rattle.loaded_ids.proofs.load.Goals as goal
 
@@ -13,7 +11,7 @@ returns-in-Wrong c =
 
 pub remake-requires : goal.remake-requires
 remake-requires c =
-    (opens_good _ _ _ _ _ _ _ c.read-opened.ensures c.in-Good.is, tests_fine _ _ _ c.examine-found.ensures c.in_default.is)
+    record { frame = opens_good _ _ _ _ _ _ _ c.read-opened.ensures c.in-Good.is; sensible = tests_fine _ _ _ c.examine-found.ensures c.in_default.is }
 
 pub returns-in-Bad : goal.returns-in-Bad
 returns-in-Bad c = wrong_frame _ _ _ _ (opens_bad _ _ _ _ _ c.read-opened.ensures c.in-Bad.is)

@@ -1,5 +1,4 @@
 -- `saved_ids::bytes` meets its contract: eight words and one for each freed id.
-use borrow.Author.Rules.{rules}
 use native.Mathlib.Omega.{arith}
 use Rattle.saved_ids.proofs.WriteLaws.{measures_ids, measures_none}
 use Rattle.saved_ids.proofs.bytes.Goals as goal

@@ -1,13 +1,9 @@
 -- `saved_ids::count` meets its contract. The invariant: k counts those passed that are not granted. The measure is how many are left.
-use borrow.Author.Rules.{rules}
-use Prim.Native.Nat.{ℕ, ◌+◌, ◌-◌, ◌≤◌}
-use mathlib.Core.Path.{◌≡◌, refl, sym, ap, ◌∙◌}
+use Prim.Native.Nat.{ℕ, ◌+◌}
+use mathlib.Core.Path.{refl, sym, ap, ◌∙◌}
 use native.Mathlib.Omega.{arith}
 use Rattle.saved_ids.proofs.WriteLaws.{unheld_more}
 use Rattle.saved_ids.specs.Format.{unheld}
-use Rattle.saved_ids.specs.Steps.{Spans}
-use Rattle.ids.specs.State.{State}
-use Rattle.ids.specs.Held.{Holds}
 use Rattle.saved_ids.proofs.count.Goals as goal
 
 pub loop-i-init : goal.loop-i-init

@@ -1,9 +1,6 @@
 -- `saved_ids::count` meets its contract. The invariant: k counts those passed that are not granted. The measure is how many are left.
-use borrow.Author.Rules.{rules}
-use Prim.Native.Nat.{ℕ, ◌+◌, ◌-◌, ◌≤◌}
-use mathlib.Core.Path.{◌≡◌, refl, sym, ap, ◌∙◌}
-use native.Mathlib.Omega.{arith}
-use Rattle.saved_ids.proofs.WriteLaws.{unheld_more}
+use Prim.Native.Nat.{◌-◌, ◌≤◌}
+use mathlib.Core.Path.{◌≡◌}
 use Rattle.saved_ids.specs.Format.{unheld}
 use Rattle.saved_ids.specs.Steps.{Spans}
 use Rattle.ids.specs.State.{State}

@@ -1,14 +1,8 @@
 -- `saved_ids::list` meets its contract. The invariant: the free ones among those passed are written (`Listed`). The measure is how many are left.
-use borrow.Author.Rules.{rules}
-use Prim.Native.Nat.{ℕ, ◌+◌, ◌-◌, ◌*◌, ◌≤◌}
-use mathlib.Core.Path.{◌≡◌, refl, ◌∙◌, subst}
+use Prim.Native.Nat.{ℕ}
+use mathlib.Core.Path.{refl, ◌∙◌, subst}
 use native.Mathlib.Omega.{arith}
-use lib.ListN.{length, get_or}
 use Rattle.saved_ids.proofs.WriteLaws.{Listed, listed_start, listed_step, listed_end}
-use Rattle.saved_ids.specs.Format.{unheld}
-use Rattle.saved_ids.specs.Steps.{Spans}
-use Rattle.ids.specs.State.{State}
-use Rattle.ids.specs.Held.{Holds}
 use Rattle.saved_ids.proofs.list.Goals as goal
 
 pub loop-i-init : goal.loop-i-init
@@ -29,4 +23,4 @@ shape_of-bs c = c.loop-i.invariant.1
 pub returns : goal.returns
 returns c =
     let l = c.loop-i in
-    record { long = l.invariant.1; behind = l.invariant.2; right = λ s h p q. listed_end s _ _ l.j _ _ p q (subst (λ (x : ℕ). Listed s x l.j l.bs-1) (omega arith) (l.invariant.3 s h p q)) }
+    record { long = l.invariant.1; behind = l.invariant.2; right = λ s h p q. listed_end s _ _ l.j _ _ p q (subst (λ (x : ℕ). Listed s x l.j l.bs) (omega arith) (l.invariant.3 s h p q)) }

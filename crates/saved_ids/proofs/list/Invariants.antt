@@ -1,10 +1,8 @@
 -- `saved_ids::list` meets its contract. The invariant: the free ones among those passed are written (`Listed`). The measure is how many are left.
-use borrow.Author.Rules.{rules}
 use Prim.Native.Nat.{ℕ, ◌+◌, ◌-◌, ◌*◌, ◌≤◌}
-use mathlib.Core.Path.{◌≡◌, refl, ◌∙◌, subst}
-use native.Mathlib.Omega.{arith}
+use mathlib.Core.Path.{◌≡◌}
 use lib.ListN.{length, get_or}
-use Rattle.saved_ids.proofs.WriteLaws.{Listed, listed_start, listed_step, listed_end}
+use Rattle.saved_ids.proofs.WriteLaws.{Listed}
 use Rattle.saved_ids.specs.Format.{unheld}
 use Rattle.saved_ids.specs.Steps.{Spans}
 use Rattle.ids.specs.State.{State}

@@ -1,5 +1,4 @@
 -- `saved_ids::measure` meets its contract: what `bounds` answers, and the count.
-use borrow.Author.Rules.{rules}
 use native.Mathlib.Omega.{arith}
 use Rattle.saved_ids.proofs.WriteLaws.{bounds_of, bounds_none, measured}
 use Rattle.saved_ids.proofs.measure.Goals as goal

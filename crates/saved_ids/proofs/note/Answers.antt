@@ -1,5 +1,4 @@
 -- `saved_ids::note` meets its contract: a granted id is passed by, a free one written.
-use borrow.Author.Rules.{rules}
 use native.Mathlib.Omega.{arith}
 use Rattle.saved_ids.proofs.WriteLaws.{noted_held, noted_free}
 use Rattle.saved_ids.proofs.note.Goals as goal

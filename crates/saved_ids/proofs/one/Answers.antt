@@ -1,5 +1,4 @@
 -- `saved_ids::one` meets its contract: what `is_allocated` tells, as a number.
-use borrow.Author.Rules.{rules}
 use Rattle.saved_ids.proofs.WriteLaws.{told_held, told_free}
 use Rattle.saved_ids.proofs.one.Goals as goal
 

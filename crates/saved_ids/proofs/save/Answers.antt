@@ -1,5 +1,4 @@
 -- `saved_ids::save` meets its contract: the freed ids are written, then the frame around them.
-use borrow.Author.Rules.{rules}
 use mathlib.Core.Path.{refl}
 use native.Mathlib.Omega.{arith}
 use Rattle.saved_ids.proofs.WriteLaws.{measures_ids, measures_none, written}
@@ -24,7 +23,7 @@ pub overflow_sub-next : goal.overflow_sub-next
 overflow_sub-next c = let d = measures_ids _ _ _ _ _ _ c.measure-extent.ensures c.in-Ids.is in omega (arith, d.from)
 
 pub list-requires : goal.list-requires
-list-requires c = let d = measures_ids _ _ _ _ _ _ c.measure-extent.ensures c.in-Ids.is in (omega (arith, d.from, d.to, d.small), omega arith)
+list-requires c = let d = measures_ids _ _ _ _ _ _ c.measure-extent.ensures c.in-Ids.is in record { n_bound = omega (arith, d.from, d.to, d.small); k_in_bounds = omega arith }
 
 pub returns : goal.returns
 returns c = written _ _ _ _ _ _ _ _ (omega arith) (measures_ids _ _ _ _ _ _ c.measure-extent.ensures c.in-Ids.is) c.list.ensures c.seal.ensures
