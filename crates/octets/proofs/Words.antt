@@ -3,7 +3,7 @@
 --     word_same        bytes that are alike from 8 i up to 8 i + 8 make the same word i
 --     word_bytes       the same word i is made by the same bytes
 --     put_word         after `put` every other word is as it was
-use Rattle.std.proofs.Common.{◌≡◌, ℕ, zero, suc, ◌+◌, ◌*◌, ◌^◌, ◌<◌, ◌≤◌, ◌⊎◌, List, length, get_or, sym, refl, ap, ◌∙◌, subst, inl, inr, ⊎_elim, arith}
+use Rattle.std.proofs.Common.{◌≡◌, ℕ, zero, suc, ◌+◌, ◌*◌, ◌^◌, ◌<◌, ◌≤◌, ◌⊎◌, List, get_or, sym, subst, inl, inr, ⊎_elim, arith}
 use Rattle.octets.specs.Octets.{two, four, eight, word, Bytes, Puts}
 use Rattle.octets.proofs.Stores.{eight_local}
 

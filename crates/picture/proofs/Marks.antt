@@ -1,14 +1,12 @@
 -- Laws of marks: what one more stretch does to a cell, and what a mark says of a pool that is told whole. Assumes nothing.
 --     cell_told     where every address lies in a stretch of one kind, the mark says of all of a cell's addresses what they are
-use mathlib.Core.Path.{◌≡◌, refl, sym, ap, ◌∙◌, subst}
+use mathlib.Core.Path.{◌≡◌, refl, sym, ap, subst}
 use mathlib.Core.Logic.{◌⊎◌, inl, inr, ⊎_elim}
-use mathlib.Core.Bool.{Bool, true, false, cond}
-use mathlib.Core.List.{List, [], ◌∷◌}
+use mathlib.Core.Bool.{Bool, true, false}
+use mathlib.Core.List.{List, ◌∷◌}
 use Prim.Native.Nat.{ℕ, suc, ◌+◌, ◌-◌, ◌≤◌, ◌<◌}
 use native.Mathlib.Omega.{arith}
-use lib.Dec.{eqb}
 use lib.ListN.{length, get_or}
-use borrow.Author.Tests.{eq-eqb, ne_eqb}
 use Rattle.picture.specs.Bar.{before, InCell, Stretch, Covers, Met, Says, Shows, joined, Hit, Touched}
 use Rattle.picture.proofs.Cells.{before_most}
 

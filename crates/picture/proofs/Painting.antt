@@ -1,15 +1,15 @@
 -- Painting cell by cell: those before i are painted, the others as they were. Assumes nothing.
 use mathlib.Core.Path.{◌≡◌, refl, sym, ap, ◌∙◌, subst}
-use mathlib.Core.Logic.{◌⊎◌, inl, inr, ⊎_elim}
+use mathlib.Core.Logic.{inl, ⊎_elim}
 use mathlib.Core.Bool.{Bool, true, false}
-use mathlib.Core.List.{List, [], ◌∷◌, ◌++◌}
-use Prim.Native.Nat.{ℕ, zero, suc, ◌+◌, ◌-◌, ◌/◌, ◌%◌, ◌≤◌, ◌<◌}
+use mathlib.Core.List.{List, ◌∷◌, ◌++◌}
+use Prim.Native.Nat.{ℕ, suc, ◌+◌, ◌-◌, ◌/◌, ◌%◌, ◌≤◌, ◌<◌}
 use native.Mathlib.Omega.{arith}
 use native.Mathlib.Numerals.{add-one}
-use lib.ListN.{length, get_or, set, length-set, replicate, drop, get_or-replicate, length-replicate, drop_of_length-le, get_or-append}
+use lib.ListN.{length, get_or, set, length-set, replicate, drop, get_or-replicate, length-replicate, get_or-append}
 use lib.Seq.{get_or-set_same, get_or-set_other}
-use Rattle.picture.specs.Bar.{IsPool, size_of, before, InCell, Stretch, Met, Says, Shows, Cleared, Painted, joined, Hit, Touched}
-use Rattle.picture.proofs.Cells.{below_or_not, before_zero, before_suc, before_most}
+use Rattle.picture.specs.Bar.{IsPool, size_of, before, Met, Says, Cleared, Painted, Touched}
+use Rattle.picture.proofs.Cells.{below_or_not, before_zero, before_suc}
 use Rattle.picture.proofs.Marks.{stretch, says_touched, says_missed}
 
 pub record Painting (old : List ℕ) (base last s e : ℕ) (k : Bool) (new : List ℕ) (off i : ℕ) : Type 0 where

@@ -1,9 +1,7 @@
 -- `cells::locate` meets its contract.
 use native.Mathlib.Omega.{arith}
-use lib.ListN.{length, get_or}
 use Rattle.cells.specs.Cells.{Locates}
 use Rattle.cells.proofs.Strides.{two_passed, passed_located}
-use borrow.Author.Rules.{rules}
 use Rattle.cells.proofs.locate.Goals as goal
 
 pub returns-then-n-eq0 : goal.returns-then-n-eq0

@@ -1,9 +1,6 @@
 -- `cells::pass` meets its contract.
 use native.Mathlib.Omega.{arith}
-use Prim.Native.Nat.{◌-◌, ◌+◌}
-use lib.ListN.{length, get_or}
-use Rattle.cells.proofs.Strides.{Passing, pass_start, pass_step, pass_end}
-use borrow.Author.Rules.{rules}
+use Rattle.cells.proofs.Strides.{pass_start, pass_step, pass_end}
 use Rattle.cells.proofs.pass.Goals as goal
 
 pub loop-k-init : goal.loop-k-init

@@ -1,9 +1,7 @@
 -- `cells::pass` meets its contract.
-use native.Mathlib.Omega.{arith}
-use Prim.Native.Nat.{◌-◌, ◌+◌}
-use lib.ListN.{length, get_or}
-use Rattle.cells.proofs.Strides.{Passing, pass_start, pass_step, pass_end}
-use borrow.Author.Rules.{rules}
+use Prim.Native.Nat.{◌-◌}
+use lib.ListN.{get_or}
+use Rattle.cells.proofs.Strides.{Passing}
 use Rattle.cells.proofs.pass.Given as goal
 
 abbrev pub invariant-loop-k : goal.invariant-loop-k

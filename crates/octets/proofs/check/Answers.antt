@@ -1,6 +1,6 @@
 -- `octets::check` meets its contract. The invariant: c is the check of the words passed. The measure is how many are left.
-use Rattle.std.proofs.Common.{◌≡◌, ◌-◌, ◌*◌, ◌≤◌, length, sym, ap, ◌∙◌, add-one, arith, rules}
-use Rattle.octets.specs.Octets.{check, word}
+use Rattle.std.proofs.Common.{◌≡◌, sym, ap, ◌∙◌, add-one, arith, rules}
+use Rattle.octets.specs.Octets.{check}
 use Rattle.octets.proofs.check.Goals as goal
 
 pub loop-i-init : goal.loop-i-init

@@ -1,5 +1,5 @@
 -- `octets::check` meets its contract. The invariant: c is the check of the words passed. The measure is how many are left.
-use Rattle.std.proofs.Common.{◌≡◌, ◌-◌, ◌*◌, ◌≤◌, length, sym, ap, ◌∙◌, add-one, arith, rules}
+use Rattle.std.proofs.Common.{◌≡◌, ◌-◌, ◌*◌, ◌≤◌, length}
 use Rattle.octets.specs.Octets.{check, word}
 use Rattle.octets.proofs.check.Given as goal
 

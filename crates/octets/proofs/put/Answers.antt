@@ -1,5 +1,5 @@
 -- `octets::put` meets its contract: the eight bytes of word i are set.
-use Rattle.std.proofs.Common.{arith, rules}
+use Rattle.std.proofs.Common.{arith}
 use Rattle.octets.specs.Octets.{word}
 use Rattle.octets.proofs.put.Goals as goal
 

@@ -1,5 +1,5 @@
 -- `octets::put_eight` meets its contract: two halves, side by side.
-use Rattle.std.proofs.Common.{arith, rules}
+use Rattle.std.proofs.Common.{arith}
 use Rattle.octets.specs.Octets.{four, eight}
 use Rattle.octets.proofs.Stores.{four_local, both}
 use Rattle.octets.proofs.put_eight.Goals as goal

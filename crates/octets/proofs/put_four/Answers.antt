@@ -1,5 +1,5 @@
 -- `octets::put_four` meets its contract: two halves, side by side.
-use Rattle.std.proofs.Common.{arith, rules}
+use Rattle.std.proofs.Common.{arith}
 use Rattle.octets.specs.Octets.{two, four}
 use Rattle.octets.proofs.Stores.{two_local, both}
 use Rattle.octets.proofs.put_four.Goals as goal

@@ -1,5 +1,5 @@
 -- `octets::put_two` meets its contract: two bytes are set, one after the other.
-use Rattle.std.proofs.Common.{arith, length-set, rules}
+use Rattle.std.proofs.Common.{arith, length-set}
 use Rattle.octets.proofs.Stores.{two_stored}
 use Rattle.octets.proofs.put_two.Goals as goal
 

@@ -1,5 +1,4 @@
 -- `picture::cell_size` meets its contract.
-use borrow.Author.Rules.{rules}
 use borrow.Author.Tests.{lt-ltb, le-ltb}
 use Rattle.picture.proofs.cell_size.Goals as goal
 

@@ -1,10 +1,9 @@
 -- `picture::clear` meets its contract: a bar of blanks shows no stretch.
-use borrow.Author.Rules.{rules}
-use mathlib.Core.Path.{◌≡◌, refl, sym, ap, ◌∙◌}
-use mathlib.Core.List.{List, ◌++◌}
-use Prim.Native.Nat.{ℕ, ◌+◌, ◌-◌, ◌≤◌}
+use mathlib.Core.Path.{refl, ap, ◌∙◌}
+use mathlib.Core.List.{List}
+use Prim.Native.Nat.{ℕ}
 use native.Mathlib.Omega.{arith}
-use lib.ListN.{length, set, drop, replicate, length-set}
+use lib.ListN.{set, length-set}
 use borrow.Author.Fill.{fill_none, fill_more}
 use Rattle.picture.proofs.Painting.{cleared}
 use Rattle.picture.proofs.clear.Goals as goal

@@ -1,12 +1,8 @@
 -- `picture::clear` meets its contract: a bar of blanks shows no stretch.
-use borrow.Author.Rules.{rules}
-use mathlib.Core.Path.{◌≡◌, refl, sym, ap, ◌∙◌}
-use mathlib.Core.List.{List, ◌++◌}
-use Prim.Native.Nat.{ℕ, ◌+◌, ◌-◌, ◌≤◌}
-use native.Mathlib.Omega.{arith}
-use lib.ListN.{length, set, drop, replicate, length-set}
-use borrow.Author.Fill.{fill_none, fill_more}
-use Rattle.picture.proofs.Painting.{cleared}
+use mathlib.Core.Path.{◌≡◌}
+use mathlib.Core.List.{◌++◌}
+use Prim.Native.Nat.{◌-◌, ◌≤◌}
+use lib.ListN.{length, drop, replicate}
 use Rattle.picture.proofs.clear.Given as goal
 
 abbrev pub invariant-loop-i : goal.invariant-loop-i

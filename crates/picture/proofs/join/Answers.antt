@@ -1,7 +1,4 @@
 -- `picture::join` meets its contract: by the kind of the stretch and the mark.
-use borrow.Author.Rules.{rules}
-use mathlib.Core.Path.{◌≡◌, refl, sym, ap, ◌∙◌}
-use mathlib.Core.Bool.{Bool}
 use borrow.Author.Tests.{eq-eqb, ne_eqb}
 use Rattle.picture.specs.Bar.{joined}
 use Rattle.picture.proofs.join.Goals as goal

@@ -1,8 +1,7 @@
 -- `picture::touch` meets its contract: a stretch and a cell meet where neither ends before the other starts.
-use borrow.Author.Rules.{rules}
 use mathlib.Core.Path.{refl}
 use mathlib.Core.Logic.{inl, inr}
-use Prim.Native.Nat.{ℕ, ◌+◌, max}
+use Prim.Native.Nat.{◌+◌, max}
 use native.Mathlib.Nat.{le-max_left, le-max_right}
 use native.Mathlib.Omega.{arith}
 use Rattle.picture.proofs.touch.Goals as goal
