@@ -14,4 +14,4 @@ pub returns-in-Done : goal.returns-in-Done
 returns-in-Done c = subst (λ (t : Taken). Settles c.args.mem.now c.args.answer c.args.claim (verdict c.args.answer t) c.follow-taken.new.mem) c.in-Done.is (settle_wrong c.args.mem.now c.undo.new.mem c.follow-taken.new.mem c.args.answer c.args.claim c.follow-taken.result (subst (λ b. Decides b (c.args.answer ≡ c.args.claim)) c.if-same.false c.same.ensures) c.undo.ensures c.follow-taken.ensures)
 
 pub returns-in-Hindered : goal.returns-in-Hindered
-returns-in-Hindered c = subst (λ (t : Taken). Settles c.args.mem.now c.args.answer c.args.claim (verdict c.args.answer t) c.follow-taken.new.mem) c.true.given.1 (settle_wrong c.args.mem.now c.undo.new.mem c.follow-taken.new.mem c.args.answer c.args.claim c.follow-taken.result (subst (λ b. Decides b (c.args.answer ≡ c.args.claim)) c.if-same.false c.same.ensures) c.undo.ensures c.follow-taken.ensures)
+returns-in-Hindered c = subst (λ (t : Taken). Settles c.args.mem.now c.args.answer c.args.claim (verdict c.args.answer t) c.follow-taken.new.mem) c.in-Hindered.is (settle_wrong c.args.mem.now c.undo.new.mem c.follow-taken.new.mem c.args.answer c.args.claim c.follow-taken.result (subst (λ b. Decides b (c.args.answer ≡ c.args.claim)) c.if-same.false c.same.ensures) c.undo.ensures c.follow-taken.ensures)
