@@ -65,7 +65,7 @@ calls_alike m n m' n' y z os xs ys h k a c d =
     let s = calls_run n n' z os ys k d in
     (runs_unique y os xs ys r.0 s.0 h.valid r.1 (subst (λ (w : Pool). Runs w os ys s.0) (sym e) s.1)).0
 
--- the block after a grant and its give_back holds the pool from before
+-- the block after a grant and its give-back holds the pool from before
 pub freed_again : (m n m' : List ℕ) (p : Pool) (q : Constraint) (r : RangeInclusive) (x : Answer) → Holds m p → Performs m (Allocate q) (Granted r) n → Performs n (Release r) x m' → (x ≡ Freed r) × Holds m' p
 freed_again m n m' p q r x h a f =
     let w = a.right p h in

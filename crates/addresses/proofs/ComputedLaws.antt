@@ -208,7 +208,7 @@ allocates p q o =
     (λ n'. (s, k, n')))
     (λ n'. (s, n'))
 
--- the tests of a give_back
+-- the tests of a give-back
 tells_range : (r : RangeInclusive) → Tells (IsRange r.start r.end) (is_range r)
 unfolding is_range
 tells_range r = tells_both (tells_leb r.start r.end) (tells_leb (suc (r.end - r.start + 1)) (2 ^ 64))

@@ -1,7 +1,7 @@
 -- What one step does to a pool.
 --     makes_just, made_valid       `new` has one answer, and the pool that it makes is valid
 --     next_valid, next_row         an operation keeps the pool valid, and the table after it is the one that is computed
---     free_undoes                  a give_back undoes a grant
+--     free_undoes                  a give-back undoes a grant
 --     fits_granted, no_room_full   nothing is refused that could be granted
 -- Assumes nothing.
 use Rattle.std.proofs.Common.{◌≡◌, ℕ, suc, ◌+◌, ◌-◌, ◌<◌, ◌≤◌, cond, eqb, leb, ◌⊎◌, ◌↔◌, length, sym, refl, ap, ◌∙◌, subst, inl, inr, ⊎_elim, arith}
@@ -162,7 +162,7 @@ next_row p (Release r) (Granted q) s d = absurd d
 next_row p (Release r) (Freed q) s d = sym (rw d.2 (melt_granted p.state r s d.1))
 next_row p (Release r) (Refused e) s d = refl
 
--- ---- a give_back undoes a grant
+-- ---- a give-back undoes a grant
 
 -- a pair that is granted is a range
 pub granted_range : (p : Pool) (r : RangeInclusive) → Valid p → Memᴰ r p.state.granted → IsRange r.start r.end

@@ -1,4 +1,4 @@
--- Laws of a give_back: what the table's answers to `at` and `melt` say of the pool.
+-- Laws of a give-back: what the table's answers to `at` and `melt` say of the pool.
 --     past-.., release-..     answer by answer
 --     not_granted             why a range that is not just a tile of the table is not granted
 -- Assumes nothing.
@@ -100,7 +100,7 @@ module _ (m : List ℕ) (start end : ℕ) (x : stands.Stands) (r : IsRange start
   unfolding table.Shows
   no_table q = refused m start end NoState (λ p h. absurd (subst (table.Shows m start) q c (table_of p) h.table))
 
-  -- it is just the range: the give_back is answered
+  -- it is just the range: the give-back is answered
   pub just : (s e g : ℕ) (y : Answer) (m' : List ℕ) → x ≡ stands.TheVariants.In s e g → (g ≡ 0 → ⊥) → s ≡ start → e ≡ end → Releases m start end y m' → Performs m (returning start end) y m'
   unfolding table.Shows Does Frees
   just s e g y m' q n es ee w =

@@ -1,4 +1,4 @@
--- What follows of rows and states: a state's table covers its pool and says all of the state, a give_back undoes a grant, the moves' lengths, and that the answers are the only ones.
+-- What follows of rows and states: a state's table covers its pool and says all of the state, a give-back undoes a grant, the moves' lengths, and that the answers are the only ones.
 -- Assumes nothing.
 use Rattle.std.proofs.Common.{◌≡◌, ℕ, suc, ◌+◌, ◌-◌, ◌<◌, ◌≤◌, Bool, true, false, cond, eqb, ltb, ◌⊎◌, List, [], ◌∷◌, ◌++◌, length, sym, refl, ap, subst, inl, inr, ⊎_elim, append-nil, le_antisymm, arith, length-append, ltb-false, ltb-true, le-ltb, lt-ltb, eq-eqb, ne_eqb}
 use mathlib.Core.List.Memᴰ
@@ -57,7 +57,7 @@ covers_row σ o = go (row_of σ) (behind_row σ.base σ.top σ.granted o.ordered
     go [] b = absurd (omega arith)
     go (t ∷ row) b = b
 
--- ---- a give_back undoes a grant
+-- ---- a give-back undoes a grant
 
 -- of the ranges, and of the state
 pub remove_insert : (size : ℕ) (Ok : ℕ → Type 0) (from top : ℕ) (rs : List RangeInclusive) (a : ℕ) → 0 < size → Ordered from top rs → Room size Ok from top rs a → remove a (insert (window a size) rs) ≡ rs

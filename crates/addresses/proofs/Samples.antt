@@ -25,7 +25,7 @@ samples : (lowest 32 3 (up 4) row ≡ some 16) × (highest 32 3 (below 4) row �
 unfolding lowest highest up below
 samples = (refl, refl, refl, refl, refl, refl, refl)
 
--- a window in the middle of a gap, one that fills its gap, and a give_back between two gaps
+-- a window in the middle of a gap, one that fills its gap, and a give-back between two gaps
 moves : (cut 32 25 2 1 row ≡ free 16 ∷ held 20 ∷ free 24 ∷ held 25 ∷ free 27 ∷ held 28 ∷ free 29 ∷ []) × (cut 32 29 3 1 row ≡ free 16 ∷ held 20 ∷ free 24 ∷ held 28 ∷ held 29 ∷ []) × (melt 28 row ≡ free 16 ∷ held 20 ∷ free 24 ∷ [])
 unfolding cut melt
 moves = (refl, refl, refl)

@@ -1,8 +1,8 @@
 -- What the code's tests on tiles tell of a state, and what `insert` and `remove` do to the set of the granted ranges.
 --     granted_split, split_granted     a range is granted just where the table has a granted tile that starts and ends with it
 --     granted_once                     an address lies in one granted range at most
---     insert_here .., remove_only      the granted ranges after a grant and after a give_back
---     free_granting, free_releasing    the free addresses after a grant and after a give_back
+--     insert_here .., remove_only      the granted ranges after a grant and after a give-back
+--     free_granting, free_releasing    the free addresses after a grant and after a give-back
 --     covers_state                     each row that covers the pool, with tags 0 and 1, is the table of a sound state
 -- Assumes nothing.
 use Rattle.std.proofs.Common.{◌≡◌, ℕ, zero, suc, ◌-◌, ◌<◌, ◌≤◌, Bool, true, false, cond, eqb, ltb, ◌⊎◌, ◌↔◌, List, [], ◌∷◌, ◌++◌, sym, refl, ap, ◌∙◌, subst, inl, inr, ⊎_elim, append_assoc, arith, eq-eqb, ne_eqb, eqb-true}
@@ -72,7 +72,7 @@ granted_once from top x (p ∷ rs) q r o m n h₀ h₁ h₂ h₃ = go (granted_o
     go next (inr m') (inl e') = absurd (omega (arith, ap (λ (y : RangeInclusive). y.end) e', ordered_mem (suc p.end) top rs q o.2 m'))
     go next (inr m') (inr n') = next m' n' h₀ h₁ h₂ h₃
 
--- ---- the ranges after a grant and after a give_back
+-- ---- the ranges after a grant and after a give-back
 
 -- `insert q` puts q in, keeps each range, and puts nothing else in
 pub insert_here : (q : RangeInclusive) (rs : List RangeInclusive) → Memᴰ q (insert q rs)
@@ -144,7 +144,7 @@ free_granting σ q x = (
   λ w. record { above = w.0.above; below = w.0.below; unheld = λ p m i. ⊎_elim (λ (e : p ≡ q). w.1 (subst (In x) e i)) (λ (n : Memᴰ p σ.granted). w.0.unheld p n i) (insert_only q p σ.granted m) },
 )
 
--- after a give_back it is free if it was or is in the range given back
+-- after a give-back it is free if it was or is in the range given back
 pub free_releasing : (σ : State) (r : RangeInclusive) (x : ℕ) → Sound σ → Memᴰ r σ.granted → Free (releasing σ r.start) x ↔ (Free σ x ⊎ In x r)
 unfolding releasing
 free_releasing σ r x o m = (λ f. to f (dec_le r.start x) (dec_le x r.end), ⊎_elim kept back)

@@ -122,7 +122,7 @@ Allocates p q (Freed r) = ⊥
 
 -- ---- a range is given back
 
--- what a give_back gets: the range is freed if it is just one that is granted now, from its first address to its last
+-- what a give-back gets: the range is freed if it is just one that is granted now, from its first address to its last
 unfoldable pub Frees : Pool → RangeInclusive → Answer → Type 0
 Frees p r (Refused InvalidRange) = ¬ IsRange r.start r.end
 Frees p r (Refused ResourceNotAvailable) = IsRange r.start r.end × (¬ Memᴰ r p.state.granted)

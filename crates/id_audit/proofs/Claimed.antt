@@ -1,5 +1,5 @@
 -- Going back to a state, on from a claim, and the verdict.
---     undo_release, undo_refused                 the state before a give_back's answer
+--     undo_release, undo_refused                 the state before a give-back's answer
 --     grant_told, release_told, nothing_told     the state after going on from a claim
 --     settle_right, settle_wrong, audited        the verdict
 --     hinders_not                                a claim that the block does not go on from is none that it could go on from
@@ -120,7 +120,7 @@ settle_right m x claim e s i f h = (subst (λ (y : Answer). Frees s i y) e f, su
 pub settle_wrong : (m n m' : List ℕ) (x claim : Answer) (t : Taken) → (x ≡ claim → ⊥) → Undoes m x n → FollowsRelease n claim t m' → Settles m x claim (verdict x t) m'
 settle_wrong m n m' x claim t k u f s i d h = wrong s (Release i) x claim t m' k d (f s i (u s i d h))
 
--- a give_back: the operation, then the verdict
+-- a give-back: the operation, then the verdict
 pub audited : (m n m' : List ℕ) (i : ℕ) (x claim : Answer) (t : Verdict) → Performs m (Release i) x n → Settles n x claim t m' → (s : State) → Holds m s → Judged s (Release i) claim t m'
 audited m n m' i x claim t f g s h =
     let w = f.right s h in

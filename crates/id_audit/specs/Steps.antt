@@ -14,17 +14,17 @@ unfoldable pub Goes : State → Operation → Answer → Taken → List ℕ → 
 Goes s o claim Done m' = Possible s o claim × Holds m' (after s o claim)
 Goes s o claim (Hindered e) m' = Hinders s o claim e × Holds m' s
 
--- going on from a claimed grant, and from a claimed give_back, of whichever id was asked
+-- going on from a claimed grant, and from a claimed give-back, of whichever id was asked
 abbrev pub FollowsGrant : List ℕ → Answer → Taken → List ℕ → Type 0
 FollowsGrant m claim t m' = (s : State) → Holds m s → Goes s Allocate claim t m'
 
 abbrev pub FollowsRelease : List ℕ → Answer → Taken → List ℕ → Type 0
 FollowsRelease m claim t m' = (s : State) (i : ℕ) → Holds m s → Goes s (Release i) claim t m'
 
--- going back to the state before a give_back's answer
+-- going back to the state before a give-back's answer
 abbrev pub Undoes : List ℕ → Answer → List ℕ → Type 0
 Undoes m x m' = (s : State) (i : ℕ) → Frees s i x → Holds m (freed s x) → Holds m' s
 
--- the verdict on a give_back once the right answer was given
+-- the verdict on a give-back once the right answer was given
 abbrev pub Settles : List ℕ → Answer → Answer → Verdict → List ℕ → Type 0
 Settles m x claim v m' = (s : State) (i : ℕ) → Frees s i x → Holds m (freed s x) → Judged s (Release i) claim v m'

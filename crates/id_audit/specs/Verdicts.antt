@@ -16,7 +16,7 @@ Possible s Allocate (Id k) = Free s k
 Possible s (Release i) (Id k) = Frees s k (Id k)
 Possible s o (Refused e) = Unit
 
--- why it cannot: what a grant of just the claimed id is refused with; what its give_back is refused with
+-- why it cannot: what a grant of just the claimed id is refused with; what its give-back is refused with
 unfoldable pub Hinders : State → Operation → Answer → Error → Type 0
 Hinders s Allocate (Id k) e = Just s k (Refused e)
 Hinders s (Release i) (Id k) e = Frees s k (Refused e)

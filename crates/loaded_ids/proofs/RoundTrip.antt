@@ -122,7 +122,7 @@ message_bytes u v s k l a b f g =
 unfoldable pub Resumes : List ℕ → State → ℕ → Loaded → List ℕ → Type 0
 Resumes m s k (loaded.Bytes n) m' = (n ≡ k) × Holds m' s
 Resumes m s k loaded.NoRoom m' = (m' ≡ m) × (words : ℕ) × Needs s.low s.high words × (length m < words)
-Resumes m s k (loaded.Refused flaw place) m' = ⊥
+Resumes m s k (loaded.Refused flaw _) m' = ⊥
 
 resumes : (bs m m' : List ℕ) (s : State) (n : ℕ) (r : Loaded) → Begins bs n s → Loads bs m r m' → Resumes m s n r m'
 unfolding Loads Resumes
@@ -132,7 +132,7 @@ resumes bs m m' s n (loaded.Bytes k) b l =
 resumes bs m m' s n loaded.NoRoom b l =
     let e : l.1 ≡ s = message_one bs l.1 s l.3.freed b.freed l.3.valid b.valid l.3.message b.message in
     (l.0, l.4, subst (λ (t : State). Needs t.low t.high l.4) e l.5, l.6)
-resumes bs m m' s n (loaded.Refused flaw place) b l = l.2 s n b
+resumes bs m m' s n (loaded.Refused flaw _) b l = l.2 s n b
 
 -- the theorem, one way: from the block k the state s is written into the bytes, and they are read into the block m
 pub read_written : (k bs bs' m m' : List ℕ) (n : ℕ) (s : State) (r : Loaded) → Holds k s → Valid s → s.high < 2 ^ 32 → Saves k bs (saved.Bytes n) bs' → Loads bs' m r m' → Resumes m s (size s) r m'

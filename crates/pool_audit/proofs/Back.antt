@@ -1,4 +1,4 @@
--- Going back: what undoes a grant and what undoes a give_back.
+-- Going back: what undoes a grant and what undoes a give-back.
 --     grants_again     a range that was given back can be granted again, and the pool is then as it was
 --     undo_grant       giving the granted range back leaves the pool before
 --     undo_release     granting just the freed range leaves the pool before

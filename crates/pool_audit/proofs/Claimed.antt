@@ -60,7 +60,7 @@ module _ (m m' : List ℕ) (r : RangeInclusive) where
       refused : Refused e ≡ Refused Error.InvalidRange → e ≡ Error.InvalidRange
       refused w = cc (w)
 
-  -- from a claimed give_back
+  -- from a claimed give-back
   follow_release : (x : Answer) → Performs m (returning r.start r.end) x m' → Follows m (Freed r) (outcome x) m'
   unfolding Takes Possible Hinders Does Frees next
   follow_release (Granted q) f p h = absurd (f.right p h).0

@@ -25,7 +25,7 @@ Possible p (Granted r) = IsRange r.start r.end × Clear p.state r.start (size_of
 Possible p (Freed r) = Memᴰ r p.state.granted
 Possible p (Refused e) = Unit
 
--- why it cannot: the range is none, or what an exact request for it is refused with; what its give_back is refused with
+-- why it cannot: the range is none, or what an exact request for it is refused with; what its give-back is refused with
 unfoldable pub Hinders : Pool → Answer → Error → Type 0
 Hinders p (Granted r) e = ((e ≡ Error.InvalidRange) × (¬ IsRange r.start r.end)) ⊎ (IsRange r.start r.end × Exactly p r.start (size_of r) (Refused e))
 Hinders p (Freed r) e = Frees p r (Refused e)

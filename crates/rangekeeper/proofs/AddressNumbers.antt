@@ -1,6 +1,6 @@
 -- What a caller of the address allocator's names learns from a number alone, of a block that holds a pool.
 --     granted_zero, freed_zero        0: what was asked for is done, and the block holds the pool after it
---     grant_refused, free_refused     a reason's number: it is that reason, and block and out_parameter are as they were
+--     grant_refused, free_refused     a reason's number: it is that reason, and block and out-parameter are as they were
 --     left_done                       what is left is not refused, and the two numbers are right
 -- Assumes nothing.
 use Prim.Native.Nat.{ℕ, ◌<◌}
@@ -50,7 +50,7 @@ grant_refused m m' old size align start policy e g =
     let w : Performs m (asking size align policy) (Refused e) m' = subst (λ (x : Answer). Performs m (asking size align policy) x m') q g.done in
     (w.kept, g.out ∙ ap (address.granted_or old) q, λ p h. (w.right p h).0)
 
--- a give_back that is answered 0 freed just that range
+-- a give-back that is answered 0 freed just that range
 freed_answer : (p : Pool) (r : RangeInclusive) (x : Answer) → 0 ≡ address.answer_number x → Does p (Release r) x → x ≡ Freed r
 unfolding Does Frees
 freed_answer p r (Granted q) z d = absurd d

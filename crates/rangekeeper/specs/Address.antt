@@ -26,7 +26,7 @@ answer_number (Granted r) = 0
 answer_number (Freed r) = 0
 answer_number (Refused e) = number_of e
 
--- what an out_parameter that held `old` holds after an answer: the granted range's first address, or what it held
+-- what an out-parameter that held `old` holds after an answer: the granted range's first address, or what it held
 abbrev pub granted_or : ℕ → Answer → ℕ
 granted_or old (Granted r) = r.start
 granted_or old (Freed r) = old
@@ -69,7 +69,7 @@ stands_number (In s e t) = 0
 stands_number Outside = number_of Error.OutOfRange
 stands_number NoTable = number_of Error.NoState
 
--- what three out_parameters that held `old` hold after it: the range's first address, its last, and its tag, or what they held
+-- what three out-parameters that held `old` hold after it: the range's first address, its last, and its tag, or what they held
 abbrev pub start_or : ℕ → Stands → ℕ
 start_or old (In s e t) = s
 start_or old Outside = old
@@ -85,7 +85,7 @@ tag_or old (In s e t) = t
 tag_or old Outside = old
 tag_or old NoTable = old
 
--- what `rk_address_at` does: what `at` answers, its number, and the range; a, b and c are what the out_parameters held before
+-- what `rk_address_at` does: what `at` answers, its number, and the range; a, b and c are what the out-parameters held before
 pub record Shows (m : List ℕ) (at a b c r start end tag : ℕ) : Type 0 where
   pub answer : Stands
   pub number : r ≡ stands_number answer
@@ -99,7 +99,7 @@ abbrev pub left_number : Left → ℕ
 left_number (left.Known f l) = 0
 left_number (left.Refused e) = number_of e
 
--- what two out_parameters that held `old` hold after it: the free addresses and the largest free range, or what they held
+-- what two out-parameters that held `old` hold after it: the free addresses and the largest free range, or what they held
 abbrev pub free_or : ℕ → Left → ℕ
 free_or old (left.Known f l) = f
 free_or old (left.Refused e) = old
@@ -108,7 +108,7 @@ abbrev pub largest_or : ℕ → Left → ℕ
 largest_or old (left.Known f l) = l
 largest_or old (left.Refused e) = old
 
--- what `rk_address_left` does: what `ask` answers, its number, and the two numbers; a and b are what the out_parameters held before
+-- what `rk_address_left` does: what `ask` answers, its number, and the two numbers; a and b are what the out-parameters held before
 pub record Leaves (m : List ℕ) (a b r free largest : ℕ) : Type 0 where
   pub answer : Left
   pub number : r ≡ left_number answer

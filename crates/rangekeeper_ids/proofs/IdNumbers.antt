@@ -1,6 +1,6 @@
 -- What a caller of the id allocator's names learns from a number alone, of a block that holds a state.
 --     id_zero, id_freed_zero           0: what was asked for is done, and the block holds the state after it
---     id_refused, id_free_refused      a reason's number: it is that reason, and block and out_parameter are as they were
+--     id_refused, id_free_refused      a reason's number: it is that reason, and block and out-parameter are as they were
 -- Assumes nothing.
 use Prim.Native.Nat.{ℕ, ◌<◌}
 use mathlib.Core.Path.{◌≡◌, sym, ◌∙◌, ap, subst}
@@ -22,7 +22,7 @@ refused_of : (x : Answer) (e : Error) → number_of e ≡ id.answer_number x →
 refused_of (Id i) e q = absurd (omega (arith, q, number_some e))
 refused_of (Refused d) e q = ap Refused (number_one d e (sym q))
 
--- a request that is answered 0 is granted the id that the out_parameter holds
+-- a request that is answered 0 is granted the id that the out-parameter holds
 id_answer : (old i : ℕ) (x : Answer) → 0 ≡ id.answer_number x → i ≡ id.id_or old x → x ≡ Id i
 id_answer old i (Id j) z s = ap Id (sym s)
 id_answer old i (Refused e) z s = absurd (omega (arith, z, number_some e))
@@ -39,7 +39,7 @@ id_refused m m' old i e a =
     let w : Performs m Allocate (Refused e) m' = subst (λ (x : Answer). Performs m Allocate x m') q a.done in
     (w.kept, a.out ∙ ap (id.id_or old) q, λ s h. (w.right s h).0)
 
--- a give_back that is answered 0 freed that id
+-- a give-back that is answered 0 freed that id
 freed_answer : (s : State) (i : ℕ) (x : Answer) → 0 ≡ id.answer_number x → Does s (Release i) x → x ≡ Id i
 freed_answer s i (Id j) z d = ap Id d.0
 freed_answer s i (Refused e) z d = absurd (omega (arith, z, number_some e))

@@ -18,7 +18,7 @@ abbrev pub answer_number : Answer → ℕ
 answer_number (Id i) = 0
 answer_number (Refused e) = number_of e
 
--- what an out_parameter that held `old` holds after an answer: the id, or what it held
+-- what an out-parameter that held `old` holds after an answer: the id, or what it held
 abbrev pub id_or : ℕ → Answer → ℕ
 id_or old (Id i) = i
 id_or old (Refused e) = old

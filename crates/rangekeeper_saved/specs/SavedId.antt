@@ -16,7 +16,7 @@ saved_number (saved.Bytes n) = 0
 saved_number saved.NoRoom = number_of Error.NoRoom
 saved_number saved.NoState = number_of Error.NoState
 
--- what an out_parameter that held `old` holds after it: how many bytes were written, or what it held
+-- what an out-parameter that held `old` holds after it: how many bytes were written, or what it held
 abbrev pub written_or : ℕ → Saved → ℕ
 written_or old (saved.Bytes n) = n
 written_or old saved.NoRoom = old
@@ -35,7 +35,7 @@ loaded_number (loaded.Bytes n) = 0
 loaded_number loaded.NoRoom = number_of Error.NoRoom
 loaded_number (loaded.Refused flaw place) = flaws.number_of flaw
 
--- what an out_parameter that held `old` holds after it: how many bytes were read, the place of a flaw, or what it held
+-- what an out-parameter that held `old` holds after it: how many bytes were read, the place of a flaw, or what it held
 abbrev pub place_or : ℕ → Loaded → ℕ
 place_or old (loaded.Bytes n) = n
 place_or old loaded.NoRoom = old

@@ -1,6 +1,6 @@
 -- Laws of the names for several things or none, from what the two requests and the call under them say.
 --     unknown_first, unknown_second                a policy's number that stands for no policy
---     offered                                      else the number and the out_parameters are those of the answer
+--     offered                                      else the number and the out-parameters are those of the answer
 --     unknown_first_of_three, unknown_second_of_three, offered_three
 -- Assumes nothing.
 use Prim.Native.Nat.{ℕ}

@@ -1,7 +1,7 @@
 -- What a caller of the names of copies, and of several things or none, learns from a number alone.
 --     copied_zero, copied_ids_zero      0: the copy holds what the source holds
 --     copied_refused                    a reason's number: the other block is as it was
---     both_zero, three_zero             0: all is granted, where the out_parameters say
+--     both_zero, three_zero             0: all is granted, where the out-parameters say
 --     both_refused, three_refused       a reason's number: each block holds just what it held, and only *refused was written
 -- Assumes nothing.
 use Prim.Native.Nat.{ℕ, ◌<◌}

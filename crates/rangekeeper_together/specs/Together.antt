@@ -1,5 +1,5 @@
 -- What the names for several things or none answer: the answer of what each calls, as a number, 0 for done.
--- a, b and c are the blocks before, a', b' and c' after; o and o' are the out_parameters before and after.
+-- a, b and c are the blocks before, a', b' and c' after; o and o' are the out-parameters before and after.
 use Rattle.std.specs.Prelude.{ℕ, ◌≡◌, ◌⊎◌, List}
 use Rattle.ranges.specs.declared.AllocPolicy.{AllocPolicy}
 use Rattle.ranges.specs.declared.Constraint.{Constraint}
@@ -50,7 +50,7 @@ pub record Outs : Type 0 where
 abbrev pub outs : ℕ → ℕ → ℕ → Outs
 outs first second which = record { first = first; second = second; which = which }
 
--- the number of an answer, and what the out_parameters hold after it
+-- the number of an answer, and what the out-parameters hold after it
 abbrev pub pair_number : Pair → ℕ
 pair_number (pair.Both r s) = 0
 pair_number (pair.First e) = number_of e
@@ -61,7 +61,7 @@ pair_outs o (pair.Both r s) = outs r.start s.start o.which
 pair_outs o (pair.First e) = outs o.first o.second 1
 pair_outs o (pair.Second e) = outs o.first o.second 2
 
--- what `two` does, its number, and the out_parameters
+-- what `two` does, its number, and the out-parameters
 pub record Offered (a : List ℕ) (q : Constraint) (b : List ℕ) (w : Constraint) (o : Outs) (r : ℕ) (a' b' : List ℕ) (o' : Outs) : Type 0 where
   pub answer : Pair
   pub number : r ≡ pair_number answer
@@ -108,7 +108,7 @@ triple_outs o (triple.First e) = whose o 1
 triple_outs o (triple.Second e) = whose o 2
 triple_outs o (triple.Third e) = whose o 3
 
--- what `three` does, its number, and the out_parameters
+-- what `three` does, its number, and the out-parameters
 pub record OfferedThree (a : List ℕ) (q : Constraint) (b : List ℕ) (w : Constraint) (c : List ℕ) (o : OutsThree) (r : ℕ) (a' b' c' : List ℕ) (o' : OutsThree) : Type 0 where
   pub answer : Triple
   pub number : r ≡ triple_number answer

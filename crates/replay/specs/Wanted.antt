@@ -31,7 +31,7 @@ pool_allocates size align p Claim.Freed = nothing
 pool_allocates size align p Claim.Yes = nothing
 pool_allocates size align p Claim.No = nothing
 
--- a give_back with a claim: the range is freed, or it is refused
+-- a give-back with a claim: the range is freed, or it is refused
 abbrev pub pool_frees : ℕ → ℕ → Claim → OfPool
 pool_frees s e Claim.Unsaid = asked (returning s e)
 pool_frees s e Claim.Freed = claimed (returning s e) (Answer.Freed (record { start = s; end = e }))
@@ -65,7 +65,7 @@ id_allocates Claim.Freed = nothing
 id_allocates Claim.Yes = nothing
 id_allocates Claim.No = nothing
 
--- a give_back of an id with a claim: it is freed, which may be said by the id, or it is refused
+-- a give-back of an id with a claim: it is freed, which may be said by the id, or it is refused
 abbrev pub id_frees : ℕ → Claim → OfIds
 id_frees i Claim.Unsaid = asked (ids.Release i)
 id_frees i Claim.Freed = claimed (ids.Release i) (id_answer.Answer.Id i)

@@ -43,11 +43,11 @@ free_id_at s name at = on_id (id_at s at) (λ n i. on_claim (claim_at s i) (λ c
 unfoldable pub free_at : List ℕ → ℕ → Line
 free_at s at = on_name (name_at s at) (λ name i. cond (dotted s i) (free_window_at s name i) (free_id_at s name i))
 
--- an id, behind `in_use` NAME
+-- an id, behind `in-use` NAME
 unfoldable pub asked_at : List ℕ → Name → ℕ → Line
 asked_at s name at = on_id (id_at s at) (λ n i. on_claim (claim_at s i) (λ c. Line.InUse name n c))
 
--- `in_use` NAME ID
+-- `in-use` NAME ID
 unfoldable pub in_use_at : List ℕ → ℕ → Line
 in_use_at s at = on_name (name_at s at) (λ name i. asked_at s name i)
 

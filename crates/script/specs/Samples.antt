@@ -78,7 +78,7 @@ one_dot : line_of (102 ∷ 114 ∷ 101 ∷ 101 ∷ 32 ∷ 109 ∷ 32 ∷ 53 ∷ 
 unfolding line_of allocate_at grant_at range_at aligned_at free_at free_window_at free_id_at pool_at limit_at ids_at show_at ended_at together_at other_of in_use_at asked_at name_at number_at number_in id_at window_at policy_at claim_at said_at answer_at closed_at reason_at reason_more_at scan_of no_word word_is dotted is_blank is_solid is_undotted is_named is_from digit
 one_dot = refl
 
--- `in_use irq 5 => yes`
+-- `in-use irq 5 => yes`
 a_question : line_of (105 ∷ 110 ∷ 45 ∷ 117 ∷ 115 ∷ 101 ∷ 32 ∷ 105 ∷ 114 ∷ 113 ∷ 32 ∷ 53 ∷ 32 ∷ 61 ∷ 62 ∷ 32 ∷ 121 ∷ 101 ∷ 115 ∷ []) ≡ Line.InUse (record { start = 7; len = 3 }) 5 Claim.Yes
 unfolding line_of allocate_at grant_at range_at aligned_at free_at free_window_at free_id_at pool_at limit_at ids_at show_at ended_at together_at other_of in_use_at asked_at name_at number_at number_in id_at window_at policy_at claim_at said_at answer_at closed_at reason_at reason_more_at scan_of no_word word_is dotted is_blank is_solid is_undotted is_named is_from digit
 a_question = refl

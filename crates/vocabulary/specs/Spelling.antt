@@ -5,7 +5,7 @@ use Rattle.ranges.specs.declared.Error.TheVariants.{Overflow, OutOfRange, Alread
 use Rattle.vocabulary.specs.declared.Word.{Word}
 use Rattle.vocabulary.specs.declared.Word.TheVariants.{Pool, Ids, Allocate, Free, Show, Limit, Align, First, Last, Exact, Arrow, Freed, Refused, InUse, Yes, No, Together}
 
--- `pool`, `ids`, `allocate`, `free`, `show`, `limit`, `align`, `first`, `last`, `exact`, `=>`, `freed`, `refused`, `in_use`, `yes`, `no`, `together`
+-- `pool`, `ids`, `allocate`, `free`, `show`, `limit`, `align`, `first`, `last`, `exact`, `=>`, `freed`, `refused`, `in-use`, `yes`, `no`, `together`
 abbrev pub word_text : Word → List ℕ
 word_text Pool = 112 ∷ 111 ∷ 111 ∷ 108 ∷ []
 word_text Ids = 105 ∷ 100 ∷ 115 ∷ []
@@ -25,7 +25,7 @@ word_text Yes = 121 ∷ 101 ∷ 115 ∷ []
 word_text No = 110 ∷ 111 ∷ []
 word_text Together = 116 ∷ 111 ∷ 103 ∷ 101 ∷ 116 ∷ 104 ∷ 101 ∷ 114 ∷ []
 
--- `overflow`, `out_of_range`, `already-released`, `never-allocated`, `not-available`, `invalid-range`, `invalid-alignment`, `unaligned`, `underflow`, `invalid-size`, `no_room`, `invalid-policy`, `no_state`
+-- `overflow`, `out-of-range`, `already-released`, `never-allocated`, `not-available`, `invalid-range`, `invalid-alignment`, `unaligned`, `underflow`, `invalid-size`, `no-room`, `invalid-policy`, `no-state`
 abbrev pub reason_text : Error → List ℕ
 reason_text Overflow = 111 ∷ 118 ∷ 101 ∷ 114 ∷ 102 ∷ 108 ∷ 111 ∷ 119 ∷ []
 reason_text OutOfRange = 111 ∷ 117 ∷ 116 ∷ 45 ∷ 111 ∷ 102 ∷ 45 ∷ 114 ∷ 97 ∷ 110 ∷ 103 ∷ 101 ∷ []
