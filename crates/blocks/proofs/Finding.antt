@@ -1,16 +1,16 @@
 -- What `find` answers, from the searches among the blocks and in one. Assumes nothing.
-use Prim.Native.Nat.{ℕ, ◌+◌, ◌*◌, ◌≤◌, ◌<◌}
-use mathlib.Core.Path.{◌≡◌, sym, ◌∙◌}
+use Prim.Native.Nat.{ℕ, ◌+◌, ◌*◌, ◌<◌}
+use mathlib.Core.Path.{◌≡◌, ◌∙◌}
 use mathlib.Core.List.{List}
 use native.Mathlib.Decide.{dec_lt}
 use native.Mathlib.Omega.{arith}
-use lib.ListN.{length, get_or}
+use lib.ListN.{get_or}
 use Rattle.cells.specs.Cells.{Passed, Located, Locates}
 use Rattle.cells.specs.declared.Spot.{Spot}
 use Rattle.cells.specs.declared.Spot.TheVariants as spot
 use Rattle.places.proofs.Searches.{get_d_any}
 use Rattle.blocks.specs.Blocks.{blocks_of, size_at, starts_at, past_at, Sound}
-use Rattle.blocks.specs.Looks.{There, Finds}
+use Rattle.blocks.specs.Looks.{Finds}
 use Rattle.blocks.specs.declared.Where.TheVariants.{In, Before}
 use Rattle.blocks.proofs.Parts.{starts_length, start_at, start_past}
 use Rattle.blocks.proofs.Flat.{flat_located, flat_zero}

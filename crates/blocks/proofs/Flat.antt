@@ -1,14 +1,14 @@
 -- A block's ranges among all ranges. Assumes nothing.
-use Prim.Native.Nat.{ℕ, zero, suc, ◌+◌, ◌-◌, ◌*◌, ◌≤◌, ◌<◌}
-use mathlib.Core.Path.{◌≡◌, refl, sym, ap, ◌∙◌}
+use Prim.Native.Nat.{ℕ, suc, ◌+◌, ◌-◌, ◌*◌, ◌≤◌, ◌<◌}
+use mathlib.Core.Path.{◌≡◌, refl, sym, ◌∙◌}
 use mathlib.Core.List.{List, [], ◌∷◌, ◌++◌}
 use native.Mathlib.Decide.{dec_lt}
 use native.Mathlib.Omega.{arith}
-use lib.ListN.{length, get_or, take, drop, get_or-append, get_or-eq_default}
+use lib.ListN.{length, get_or, get_or-append, get_or-eq_default}
 use Rattle.cells.specs.Cells.{Located}
 use Rattle.places.proofs.Searches.{get_d_any}
-use Rattle.blocks.specs.Blocks.{blocks_of, top_of, size_at, starts_at, tags_at, last_at, past_at, sizes, cells, starts_of, tags_of, index, Sound, Settled, Risen}
-use Rattle.blocks.proofs.Parts.{part_get, fits, block_room, starts_length, tags_length, start_at, start_past, last_inner, last_end, cells_length, cells_cons, three, three_sizes}
+use Rattle.blocks.specs.Blocks.{blocks_of, top_of, size_at, starts_at, tags_at, past_at, sizes, cells, starts_of, tags_of, index, Sound, Settled, Risen}
+use Rattle.blocks.proofs.Parts.{starts_length, tags_length, start_at, start_past, last_inner, last_end, cells_length, cells_cons, three, three_sizes}
 
 -- a cell of a list in the middle of others, and the one behind them
 middle : (x y z : List ℕ) (n i d : ℕ) → length x ≡ n → i < length y → get_or (x ++ (y ++ z)) (n + i) d ≡ get_or y i d

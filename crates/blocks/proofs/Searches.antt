@@ -1,15 +1,15 @@
 -- What is found in a block is found in the table. Assumes nothing.
-use Prim.Native.Nat.{ℕ, zero, suc, ◌+◌, ◌-◌, ◌*◌, ◌≤◌, ◌<◌}
-use mathlib.Core.Path.{◌≡◌, refl, sym, ap, ◌∙◌}
-use mathlib.Core.List.{List, [], ◌++◌}
+use Prim.Native.Nat.{ℕ, ◌+◌, ◌-◌, ◌≤◌, ◌<◌}
+use mathlib.Core.Path.{◌≡◌, sym, ◌∙◌}
+use mathlib.Core.List.{List}
 use native.Mathlib.Decide.{dec_lt}
 use native.Mathlib.Omega.{arith}
-use lib.ListN.{length, get_or}
+use lib.ListN.{get_or}
 use Rattle.ranges.specs.Align.{PowerOfTwo}
-use Rattle.places.specs.Places.{Fits, Room, LowestIn, HighestIn, SearchUp, SearchDown}
+use Rattle.places.specs.Places.{Room, LowestIn, HighestIn, SearchUp, SearchDown}
 use Rattle.places.specs.declared.Fit.{Fit}
 use Rattle.places.specs.declared.Fit.TheVariants.{At, Nowhere}
-use Rattle.blocks.specs.Blocks.{blocks_of, top_of, size_at, bound_at, starts_at, tags_at, last_at, past_at, sizes, starts_of, tags_of, index, Within, Sound, Settled, Bounded, Risen, Ready}
+use Rattle.blocks.specs.Blocks.{blocks_of, size_at, bound_at, starts_at, tags_at, last_at, past_at, sizes, starts_of, tags_of, index, Within, Sound, Settled, Bounded, Ready}
 use Rattle.blocks.proofs.Parts.{starts_length, as_many, sizes_snoc}
 use Rattle.blocks.proofs.Flat.{all_starts, flat_start, flat_tag, flat_within, flat_next}
 

@@ -1,26 +1,23 @@
 -- A window that is printed reads back as the two numbers that were printed. Assumes nothing.
 --     window_reads     print, then read, is the identity on windows
-use mathlib.Core.Path.{◌≡◌, refl, sym, ap, ◌∙◌, subst}
-use mathlib.Core.Bool.{Bool, true, false, cond}
+use mathlib.Core.Path.{◌≡◌, refl, ap, ◌∙◌}
+use mathlib.Core.Bool.{true}
 use mathlib.Core.List.{List, [], ◌∷◌, ◌++◌}
-use Prim.Native.Nat.{ℕ, zero, suc, ◌+◌, ◌-◌, ◌^◌, ◌≤◌, ◌<◌, min}
+use Prim.Native.Nat.{ℕ, suc, ◌+◌, ◌-◌, ◌^◌, ◌≤◌, ◌<◌}
 use native.Mathlib.Omega.{arith}
-use lib.Dec.{ltb, eqb}
-use lib.ListN.{length, take, drop, get_or, length-append}
+use lib.ListN.{length, take, get_or, length-append}
 use lib.Seq.{take_at, take_all, drop-append-add, get_or-append-add}
-use borrow.Author.Tests.{le-ltb, eq-eqb, ne_eqb}
-use Rattle.text.specs.Words.{is_in, is_blank, is_solid, is_undotted, run, scan_of, start_of, end_of, between}
+use borrow.Author.Tests.{le-ltb, ne_eqb}
+use Rattle.text.specs.Words.{is_in, is_blank, is_solid, is_undotted, run, scan_of, start_of, between}
 use Rattle.text.specs.declared.Class.{Class}
-use Rattle.text.specs.declared.Class.TheVariants.{Blank, Solid, Undotted}
+use Rattle.text.specs.declared.Class.TheVariants.{Solid, Undotted}
 use Rattle.numerals.specs.Numeral.{read}
 use Rattle.numerals.specs.Spelled.{spell, hexadecimal}
-use Rattle.numerals.specs.declared.Value.{Value}
 use Rattle.numerals.specs.declared.Value.TheVariants.{Number}
 use Rattle.numerals.proofs.Plain.{Plain, AllPlain, spell_plain}
 use Rattle.numerals.proofs.RoundTrip.{hexadecimal_reads}
 use Rattle.fields.specs.Answers.{window_text}
-use Rattle.fields.specs.Fields.{value_at, number_in, pair_of, window_at}
-use Rattle.fields.specs.declared.Flaw.{Flaw}
+use Rattle.fields.specs.Fields.{value_at, number_in, window_at}
 use Rattle.fields.specs.declared.NumberTaken.{NumberTaken}
 use Rattle.fields.specs.declared.WindowTaken.{WindowTaken}
 use Rattle.fields.proofs.Windows.{window_length}

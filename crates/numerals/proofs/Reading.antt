@@ -1,17 +1,17 @@
 -- Laws of reading a numeral byte by byte: `0x` at the front, one more digit, and what is read at the end. Assumes nothing.
-use mathlib.Core.Path.{◌≡◌, refl, sym, ap, ◌∙◌, subst}
+use mathlib.Core.Path.{◌≡◌, refl, sym, ap, ◌∙◌}
 use mathlib.Core.Logic.{◌⊎◌, inl, inr, ⊎_elim}
 use mathlib.Core.Bool.{Bool, true, false, cond}
 use mathlib.Core.List.{List, [], ◌∷◌}
-use Prim.Native.Nat.{ℕ, zero, suc, ◌+◌, ◌-◌, ◌*◌, ◌/◌, ◌^◌, ◌≤◌, ◌<◌}
+use Prim.Native.Nat.{ℕ, suc, ◌+◌, ◌-◌, ◌*◌, ◌/◌, ◌^◌, ◌≤◌, ◌<◌}
 use native.Mathlib.Nat.{le-div_iff_mul-le, div-lt_iff_lt-mul, mul-le-mul_left}
 use native.Mathlib.Omega.{arith}
 use lib.Dec.{ltb, eqb}
 use lib.ListN.{length, drop, get_or, drop_of_length-le}
 use lib.Seq.{drop-cons}
 use native.Mathlib.Numerals.{add-one}
-use borrow.Author.Tests.{ltb-true, ltb-false, lt-ltb, le-ltb, ne_eqb}
-use Rattle.numerals.specs.Numeral.{Meaning, means, wrong, digit, after, digits, is_hex, fitted}
+use borrow.Author.Tests.{ltb-false, lt-ltb, le-ltb, ne_eqb}
+use Rattle.numerals.specs.Numeral.{means, wrong, digit, after, digits, is_hex, fitted}
 use Rattle.numerals.specs.Steps.{sum_of, added, stepped}
 use Rattle.numerals.specs.declared.Value.TheVariants.{Number, NoDigit, TooLarge}
 use Rattle.numerals.specs.declared.Sum.{Sum}

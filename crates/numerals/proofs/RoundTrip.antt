@@ -3,17 +3,17 @@
 use mathlib.Core.Path.{◌≡◌, refl, sym, ap, ◌∙◌, subst}
 use mathlib.Core.Bool.{Bool, true, false, cond}
 use mathlib.Core.List.{List, [], ◌∷◌, ◌++◌}
-use Prim.Native.Nat.{ℕ, zero, suc, ◌+◌, ◌-◌, ◌*◌, ◌/◌, ◌%◌, ◌^◌, ◌≤◌, ◌<◌}
+use Prim.Native.Nat.{ℕ, zero, suc, ◌+◌, ◌*◌, ◌/◌, ◌%◌, ◌^◌, ◌≤◌, ◌<◌}
 use native.Mathlib.Nat.{mod-lt, div-lt_iff_lt-mul, div-add-mod', pow-zero, pow-suc, mul_assoc, add-mul}
 use native.Mathlib.Omega.{arith}
 use lib.Dec.{ltb, eqb}
 use lib.ListN.{length, length-append}
-use borrow.Author.Tests.{ltb-true, ltb-false, lt-ltb, le-ltb, ne_eqb}
-use Rattle.numerals.specs.Numeral.{Meaning, means, wrong, digit, after, digits, is_hex, numeral, fitted, read}
+use borrow.Author.Tests.{ltb-true, lt-ltb, ne_eqb}
+use Rattle.numerals.specs.Numeral.{means, wrong, digit, after, digits, is_hex, fitted, read}
 use Rattle.numerals.specs.Spelled.{glyph, spell, decimal, hexadecimal}
 use Rattle.numerals.specs.declared.Value.TheVariants.{Number}
 use Rattle.numerals.proofs.Spelling.{fixed, spell_fixed, twenty, quotient, first}
-use Rattle.numerals.proofs.Plain.{Plain, AllPlain, glyph_plain, digit_glyph, spell_plain, spell_some}
+use Rattle.numerals.proofs.Plain.{AllPlain, glyph_plain, digit_glyph, spell_plain, spell_some}
 
 -- one more digit behind digits that mean v
 after_snoc : (b m i v c : ℕ) (s : List ℕ) → after b m i s ≡ means v → (c ≡ 95 → ⊥) → digit c < b → after b m i (s ++ (c ∷ [])) ≡ means (v * b + digit c)

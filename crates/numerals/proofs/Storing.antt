@@ -1,12 +1,11 @@
 -- Laws of text put into lent bytes. Assumes nothing.
 use mathlib.Core.Path.{◌≡◌, refl, sym, ap, ◌∙◌, subst}
 use mathlib.Core.List.{List, [], ◌∷◌, ◌++◌, append_assoc, append-nil}
-use Prim.Native.Nat.{ℕ, zero, suc, ◌+◌, ◌-◌, ◌/◌, ◌%◌, ◌≤◌, ◌<◌}
+use Prim.Native.Nat.{ℕ, suc, ◌+◌, ◌-◌, ◌/◌, ◌%◌, ◌≤◌, ◌<◌}
 use native.Mathlib.Nat.{le_refl}
 use native.Mathlib.Omega.{arith}
-use native.Mathlib.Numerals.{add-one}
 use lib.ListN.{length, take, drop, set, get_or, length-set, take-append-drop}
-use lib.Seq.{take-suc, set_at, length-take-le, take-suc-set, drop-set-lt, take-set-le}
+use lib.Seq.{take-suc, set_at, length-take-le, take-suc-set, drop-set-lt}
 use Rattle.numerals.specs.Spelled.{glyph, spell}
 use Rattle.numerals.proofs.Spelling.{fixed, fixed_step, spell_fixed}
 

@@ -1,8 +1,8 @@
 -- From one range to the row of them: what a range answers, and what the ranges passed so far say. Assumes nothing.
-use Rattle.std.proofs.Common.{◌≡◌, ℕ, zero, suc, ◌+◌, ◌-◌, ◌<◌, ◌≤◌, List, [], ◌∷◌, length, get_or, sym, refl, ◌∙◌, arith}
+use Rattle.std.proofs.Common.{◌≡◌, ℕ, zero, suc, ◌+◌, ◌<◌, ◌≤◌, List, [], ◌∷◌, length, get_or, refl, arith}
 use native.Mathlib.Decide.{ℕ_discrete}
 use Rattle.ranges.specs.Align.{PowerOfTwo}
-use Rattle.places.specs.Places.{Fits, Lowest, Highest, FitsLow, FitsHigh, past_at, Room, LowestIn, HighestIn, SearchUp, SearchDown, Spans, LowAt, HighAt}
+use Rattle.places.specs.Places.{FitsLow, FitsHigh, Room, SearchUp, SearchDown, Spans, LowAt, HighAt}
 use Rattle.places.specs.declared.Fit.{Fit}
 use Rattle.places.specs.declared.Fit.TheVariants.{At, Nowhere}
 use Rattle.places.specs.declared.Span.{Span}

@@ -1,8 +1,8 @@
 -- Ranges that are passed over because they are too short. Assumes nothing.
-use Rattle.std.proofs.Common.{◌≡◌, ℕ, ◌+◌, ◌-◌, ◌*◌, ◌/◌, ◌%◌, ◌^◌, ◌<◌, ◌≤◌, List, length, get_or, sym, refl, ap, ◌∙◌, mod-eq_of_lt, div-add-mod', arith}
+use Rattle.std.proofs.Common.{◌≡◌, ℕ, ◌+◌, ◌-◌, ◌%◌, ◌^◌, ◌<◌, ◌≤◌, List, length, get_or, ◌∙◌, mod-eq_of_lt, div-add-mod', arith}
 use native.Mathlib.Decide.{dec_le, dec_lt, ℕ_discrete}
 use lib.Bits.{bit_and, and_mask}
-use Rattle.places.specs.Places.{Room, Narrow, past_at}
+use Rattle.places.specs.Places.{Room, Narrow}
 use Rattle.places.proofs.Searches.{NoneBelow, NoneFrom, get_d_any}
 
 -- 0 - 1 wraps to all ones, and a difference that need not wrap does not

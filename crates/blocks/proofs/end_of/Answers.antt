@@ -1,10 +1,8 @@
 -- `blocks::end_of` meets its contract.
 use native.Mathlib.Omega.{arith}
 use Prim.Native.Nat.{◌+◌}
-use mathlib.Core.Path.{sym, ap, ◌∙◌}
 use Rattle.blocks.specs.Blocks.{past_at}
-use Rattle.blocks.proofs.Parts.{fits, start_at, start_past}
-use borrow.Author.Rules.{rules}
+use Rattle.blocks.proofs.Parts.{start_at, start_past}
 use Rattle.blocks.proofs.end_of.Goals as goal
 
 pub returns-then-j-n : goal.returns-then-j-n

@@ -2,7 +2,6 @@
 use native.Mathlib.Omega.{arith}
 use mathlib.Core.Path.{sym, ◌∙◌}
 use Rattle.blocks.proofs.Parts.{last_inner, last_end}
-use borrow.Author.Rules.{rules}
 use Rattle.blocks.proofs.end_of_block.Goals as goal
 
 pub returns-then-c-nb : goal.returns-then-c-nb

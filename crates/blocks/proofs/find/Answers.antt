@@ -1,9 +1,5 @@
 -- `blocks::find` meets its contract.
-use native.Mathlib.Omega.{arith}
-use Rattle.blocks.specs.Looks.{Finds}
-use Rattle.blocks.specs.Blocks.{size_at}
 use Rattle.blocks.proofs.Finding.{find_first, find_none, find_in}
-use borrow.Author.Rules.{rules}
 use Rattle.blocks.proofs.find.Goals as goal
 
 pub returns-then-a-mem : goal.returns-then-a-mem

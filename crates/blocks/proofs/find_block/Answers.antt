@@ -1,6 +1,5 @@
 -- `blocks::find_block` meets its contract.
 use Rattle.cells.proofs.Strides.{two_passed}
-use borrow.Author.Rules.{rules}
 use Rattle.blocks.proofs.find_block.Goals as goal
 
 pub returns : goal.returns

@@ -2,7 +2,6 @@
 use native.Mathlib.Omega.{arith}
 use mathlib.Core.Path.{refl}
 use Rattle.blocks.specs.Looks.{Headed}
-use borrow.Author.Rules.{rules}
 use Rattle.blocks.proofs.header.Goals as goal
 
 pub returns-then-len-lt329 : goal.returns-then-len-lt329

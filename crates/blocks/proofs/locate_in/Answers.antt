@@ -3,7 +3,6 @@ use native.Mathlib.Omega.{arith}
 use Prim.Native.Nat.{◌+◌, ◌-◌, ◌*◌}
 use Rattle.blocks.specs.Blocks.{size_at}
 use Rattle.blocks.proofs.Parts.{part_lent}
-use borrow.Author.Rules.{rules}
 use Rattle.blocks.proofs.locate_in.Goals as goal
 
 pub returns : goal.returns

@@ -6,7 +6,6 @@ use Rattle.places.specs.Places.{SearchUp}
 use Rattle.blocks.specs.Blocks.{size_at, starts_at, tags_at, last_at, past_at, bound_at}
 use Rattle.blocks.proofs.Parts.{part_lent}
 use Rattle.blocks.proofs.Searches.{passed}
-use borrow.Author.Rules.{rules}
 use Rattle.blocks.proofs.look_up.Goals as goal
 
 pub returns-then-mem-b : goal.returns-then-mem-b

@@ -1,9 +1,6 @@
 -- `blocks::pass` meets its contract.
 use native.Mathlib.Omega.{arith}
-use Prim.Native.Nat.{◌-◌, ◌+◌, ◌*◌}
-use lib.ListN.{get_or}
-use Rattle.cells.proofs.Strides.{Passing, pass_start, pass_step, pass_end}
-use borrow.Author.Rules.{rules}
+use Rattle.cells.proofs.Strides.{pass_start, pass_step, pass_end}
 use Rattle.blocks.proofs.pass.Goals as goal
 
 pub loop-k-init : goal.loop-k-init

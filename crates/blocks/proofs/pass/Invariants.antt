@@ -1,9 +1,7 @@
 -- `blocks::pass` meets its contract.
-use native.Mathlib.Omega.{arith}
 use Prim.Native.Nat.{◌-◌, ◌+◌, ◌*◌}
 use lib.ListN.{get_or}
-use Rattle.cells.proofs.Strides.{Passing, pass_start, pass_step, pass_end}
-use borrow.Author.Rules.{rules}
+use Rattle.cells.proofs.Strides.{Passing}
 use Rattle.blocks.proofs.pass.Given as goal
 
 abbrev pub invariant-loop-k : goal.invariant-loop-k

@@ -1,11 +1,7 @@
 -- `blocks::search_down` meets its contract.
 use native.Mathlib.Omega.{arith}
-use Prim.Native.Nat.{◌+◌, ◌-◌, ◌≤◌}
-use Rattle.blocks.specs.Blocks.{sizes, Ready}
-use Rattle.ranges.specs.Align.{PowerOfTwo}
 use Rattle.places.specs.Places.{SearchDown}
-use Rattle.blocks.proofs.Searches.{NoneFrom, down_first, down_next, down_found, down_last}
-use borrow.Author.Rules.{rules}
+use Rattle.blocks.proofs.Searches.{down_first, down_next, down_found, down_last}
 use Rattle.blocks.proofs.search_down.Goals as goal
 
 pub loop-b-init : goal.loop-b-init

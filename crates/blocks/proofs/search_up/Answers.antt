@@ -1,11 +1,7 @@
 -- `blocks::search_up` meets its contract.
 use native.Mathlib.Omega.{arith}
-use Prim.Native.Nat.{◌+◌, ◌-◌, ◌≤◌}
-use Rattle.blocks.specs.Blocks.{sizes, Ready}
-use Rattle.ranges.specs.Align.{PowerOfTwo}
 use Rattle.places.specs.Places.{SearchUp}
-use Rattle.blocks.proofs.Searches.{NoneBelow, up_first, up_next, up_found, up_last}
-use borrow.Author.Rules.{rules}
+use Rattle.blocks.proofs.Searches.{up_first, up_next, up_found, up_last}
 use Rattle.blocks.proofs.search_up.Goals as goal
 
 pub loop-b-init : goal.loop-b-init

@@ -2,7 +2,6 @@
 use native.Mathlib.Omega.{arith}
 use mathlib.Core.Path.{sym}
 use Rattle.blocks.proofs.Parts.{fits, start_at}
-use borrow.Author.Rules.{rules}
 use Rattle.blocks.proofs.start_of.Goals as goal
 
 pub overflow_add-result-2 : goal.overflow_add-result-2

@@ -1,5 +1,4 @@
 -- `claims::close` meets its contract: each answer by the fields and words that led there.
-use borrow.Author.Rules.{rules}
 use mathlib.Core.Path.{sym, ◌∙◌}
 use Rattle.claims.specs.Claims.{closed_at}
 use Rattle.claims.proofs.close.Goals as goal

@@ -1,5 +1,4 @@
 -- `claims::take_answer` meets its contract: each answer by the fields and words that led there.
-use borrow.Author.Rules.{rules}
 use mathlib.Core.Path.{sym, ◌∙◌}
 use Rattle.claims.specs.Claims.{answer_at}
 use Rattle.claims.proofs.take_answer.Goals as goal

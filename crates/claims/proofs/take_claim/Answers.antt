@@ -1,5 +1,4 @@
 -- `claims::take_claim` meets its contract: each answer by the fields and words that led there.
-use borrow.Author.Rules.{rules}
 use mathlib.Core.Path.{sym, ◌∙◌}
 use Rattle.claims.specs.Claims.{claim_at}
 use Rattle.claims.proofs.take_claim.Goals as goal

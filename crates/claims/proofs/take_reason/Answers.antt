@@ -1,5 +1,4 @@
 -- `claims::take_reason` meets its contract: each answer by the fields and words that led there.
-use borrow.Author.Rules.{rules}
 use mathlib.Core.Path.{sym, ◌∙◌}
 use Rattle.claims.specs.Claims.{reason_at}
 use Rattle.claims.proofs.take_reason.Goals as goal

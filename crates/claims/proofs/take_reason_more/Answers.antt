@@ -1,5 +1,4 @@
 -- `claims::take_reason_more` meets its contract: each answer by the fields and words that led there.
-use borrow.Author.Rules.{rules}
 use mathlib.Core.Path.{sym, ◌∙◌}
 use Rattle.claims.specs.Claims.{reason_more_at}
 use Rattle.claims.proofs.take_reason_more.Goals as goal

@@ -1,5 +1,4 @@
 -- `fields::number_in` meets its contract: by what the numeral means.
-use borrow.Author.Rules.{rules}
 use mathlib.Core.Path.{sym, ◌∙◌}
 use Rattle.fields.specs.Fields.{number_in}
 use native.Mathlib.Omega.{arith}

@@ -1,10 +1,9 @@
 -- `fields::take_name` meets its contract: each answer by the fields and words that led there.
-use borrow.Author.Rules.{rules}
-use mathlib.Core.Path.{sym, ◌∙◌}
+use mathlib.Core.Path.{sym}
 use Rattle.fields.specs.Fields.{name_at}
 use native.Mathlib.Omega.{arith}
 use borrow.Author.Tests.{eq-eqb, ne_eqb, lt-ltb, le-ltb}
-use Rattle.text.proofs.Scans.{word_order, word_within, scan_within}
+use Rattle.text.proofs.Scans.{word_order}
 use Rattle.fields.proofs.take_name.Goals as goal
 
 pub start-a-requires : goal.start-a-requires

@@ -1,9 +1,8 @@
 -- `fields::take_number` meets its contract: each answer by the fields and words that led there.
-use borrow.Author.Rules.{rules}
-use mathlib.Core.Path.{sym, ◌∙◌}
+use mathlib.Core.Path.{sym}
 use Rattle.fields.specs.Fields.{number_at}
 use native.Mathlib.Omega.{arith}
-use Rattle.text.proofs.Scans.{word_order, word_within, scan_within}
+use Rattle.text.proofs.Scans.{word_order, word_within}
 use Rattle.fields.proofs.take_number.Goals as goal
 
 pub start-requires : goal.start-requires

@@ -1,5 +1,4 @@
 -- `fields::take_policy` meets its contract: each answer by the fields and words that led there.
-use borrow.Author.Rules.{rules}
 use mathlib.Core.Path.{sym, ◌∙◌}
 use Rattle.fields.specs.Fields.{policy_at}
 use Rattle.fields.proofs.take_policy.Goals as goal

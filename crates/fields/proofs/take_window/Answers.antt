@@ -1,10 +1,9 @@
 -- `fields::take_window` meets its contract: each answer by the fields and words that led there.
-use borrow.Author.Rules.{rules}
 use mathlib.Core.Path.{sym, ◌∙◌}
 use Rattle.fields.specs.Fields.{window_at}
 use native.Mathlib.Omega.{arith}
 use borrow.Author.Tests.{eq-eqb, ne_eqb, lt-ltb, le-ltb}
-use Rattle.text.proofs.Scans.{word_order, word_within, scan_within}
+use Rattle.text.proofs.Scans.{word_within, scan_within}
 use Prim.Native.Nat.{◌≤◌}
 use lib.ListN.{length}
 use Rattle.text.specs.declared.Class.TheVariants.{Blank}

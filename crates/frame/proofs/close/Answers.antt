@@ -1,9 +1,8 @@
 -- `frame::close` meets its contract: the check of the words before is put behind them.
-use borrow.Author.Rules.{rules}
 use Prim.Native.Nat.{ℕ}
 use mathlib.Core.Path.{subst}
 use native.Mathlib.Omega.{arith}
-use Rattle.octets.specs.Octets.{check, Puts}
+use Rattle.octets.specs.Octets.{Puts}
 use Rattle.frame.proofs.close.Goals as goal
 
 pub returns : goal.returns

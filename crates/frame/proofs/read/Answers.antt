@@ -1,10 +1,8 @@
 -- `frame::read` meets its contract: each test is a field of `Frame`, and what fails one is no frame.
-use borrow.Author.Rules.{rules}
 use Prim.Native.Nat.{ℕ, ◌+◌}
-use mathlib.Core.Path.{◌≡◌, refl, sym, ap, ◌∙◌}
+use mathlib.Core.Path.{refl, sym, ap, ◌∙◌}
 use mathlib.Core.Logic.{inl, inr}
 use native.Mathlib.Omega.{arith}
-use Rattle.octets.specs.Octets.{word, check}
 use Rattle.frame.specs.Frame.{Flawed, Opens}
 use Rattle.frame.proofs.read.Goals as goal
 

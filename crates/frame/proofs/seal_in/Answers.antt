@@ -1,5 +1,4 @@
 -- `frame::seal_in` meets its contract: the head, its check, and the check of all.
-use borrow.Author.Rules.{rules}
 use native.Mathlib.Omega.{arith}
 use Rattle.frame.proofs.FrameLaws.{sealed}
 use Rattle.frame.proofs.seal_in.Goals as goal

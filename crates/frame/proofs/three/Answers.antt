@@ -1,5 +1,4 @@
 -- `frame::three` meets its contract: three words are set, one after the other.
-use borrow.Author.Rules.{rules}
 use native.Mathlib.Omega.{arith}
 use Rattle.frame.proofs.FrameLaws.{three_puts}
 use Rattle.frame.proofs.three.Goals as goal

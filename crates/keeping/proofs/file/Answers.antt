@@ -1,5 +1,4 @@
 -- `keeping::file` meets its contract: each answer by the fields and words that led there.
-use borrow.Author.Rules.{rules}
 use native.Mathlib.Omega.{arith}
 use Rattle.text.proofs.Scans.{word_order}
 use mathlib.Core.Path.{sym, ◌∙◌}

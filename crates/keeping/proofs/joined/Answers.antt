@@ -1,5 +1,4 @@
 -- `keeping::joined` meets its contract: each answer by the fields and words that led there.
-use borrow.Author.Rules.{rules}
 use mathlib.Core.Path.{sym, ◌∙◌}
 use Rattle.keeping.specs.Keeping.{joined_at}
 use Rattle.keeping.proofs.joined.Goals as goal

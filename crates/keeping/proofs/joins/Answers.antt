@@ -1,5 +1,4 @@
 -- `keeping::joins` meets its contract: by the way.
-use borrow.Author.Rules.{rules}
 use mathlib.Core.Path.{sym, ap, ◌∙◌}
 use Rattle.text.specs.Words.{word_is}
 use Rattle.keeping.specs.Keeping.{join_text}

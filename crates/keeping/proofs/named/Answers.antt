@@ -1,5 +1,4 @@
 -- `keeping::named` meets its contract: each answer by the fields and words that led there.
-use borrow.Author.Rules.{rules}
 use mathlib.Core.Path.{sym, ◌∙◌}
 use Rattle.keeping.specs.Keeping.{named_at}
 use Rattle.keeping.proofs.named.Goals as goal

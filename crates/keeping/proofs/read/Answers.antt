@@ -1,5 +1,4 @@
 -- `keeping::read` meets its contract: each answer by the fields and words that led there.
-use borrow.Author.Rules.{rules}
 use borrow.Author.Tests.{lt-ltb, le-ltb}
 use mathlib.Core.Path.{sym, ◌∙◌}
 use Rattle.keeping.specs.Keeping.{kept_of}

@@ -1,8 +1,6 @@
 -- `numerals::decimal` meets its contract: `width` counts the digits, and `fill` puts them.
-use borrow.Author.Rules.{rules}
-use mathlib.Core.Path.{refl, ap}
+use mathlib.Core.Path.{refl}
 use native.Mathlib.Omega.{arith}
-use Prim.Native.Nat.{ℕ, ◌+◌}
 use Rattle.numerals.specs.Spelled.{decimal}
 use Rattle.numerals.proofs.decimal.Goals as goal
 

@@ -1,5 +1,4 @@
 -- `numerals::digit` meets its contract: each answer by the tests that led there.
-use borrow.Author.Rules.{rules}
 use borrow.Author.Tests.{lt-ltb, le-ltb}
 use Rattle.numerals.specs.Numeral.{digit}
 use Rattle.numerals.proofs.digit.Goals as goal

@@ -1,5 +1,4 @@
 -- `numerals::glyph` meets its contract.
-use borrow.Author.Rules.{rules}
 use borrow.Author.Tests.{lt-ltb, le-ltb}
 use Rattle.numerals.proofs.glyph.Goals as goal
 

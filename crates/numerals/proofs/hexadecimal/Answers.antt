@@ -1,8 +1,7 @@
 -- `numerals::hexadecimal` meets its contract: as `decimal`, behind the two bytes of `0x`.
-use borrow.Author.Rules.{rules}
 use mathlib.Core.Path.{refl, ◌∙◌}
 use native.Mathlib.Omega.{arith}
-use Prim.Native.Nat.{ℕ, ◌+◌}
+use Prim.Native.Nat.{◌+◌}
 use lib.ListN.{length-set}
 use Rattle.numerals.specs.Spelled.{hexadecimal, spell}
 use Rattle.numerals.proofs.Storing.{hex_stored}

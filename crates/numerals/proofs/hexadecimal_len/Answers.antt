@@ -1,5 +1,4 @@
 -- `numerals::hexadecimal_len` meets its contract.
-use borrow.Author.Rules.{rules}
 use native.Mathlib.Omega.{arith}
 use Rattle.numerals.specs.Spelled.{hexadecimal}
 use Rattle.numerals.proofs.hexadecimal_len.Goals as goal

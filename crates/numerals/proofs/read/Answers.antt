@@ -1,6 +1,5 @@
 -- `numerals::read` meets its contract: by what the text begins with.
-use borrow.Author.Rules.{rules}
-use mathlib.Core.Path.{◌≡◌, sym, ap, ◌∙◌}
+use mathlib.Core.Path.{sym, ap, ◌∙◌}
 use mathlib.Core.Bool.{Bool, cond}
 use lib.ListN.{drop}
 use Rattle.numerals.specs.Numeral.{digits, fitted}

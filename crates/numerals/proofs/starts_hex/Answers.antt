@@ -1,7 +1,5 @@
 -- `numerals::starts_hex` meets its contract: the first two bytes decide.
-use borrow.Author.Rules.{rules}
 use mathlib.Core.Path.{sym, ◌∙◌}
-use native.Mathlib.Omega.{arith}
 use borrow.Author.Tests.{eq-eqb, ne_eqb}
 use Rattle.numerals.proofs.Reading.{hex_short, hex_long}
 use Rattle.numerals.proofs.starts_hex.Goals as goal

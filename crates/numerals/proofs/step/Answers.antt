@@ -1,7 +1,5 @@
 -- `numerals::step` meets its contract. A sum fits exactly where n is at most (M - d) / base (`room`, `no_room`).
-use borrow.Author.Rules.{rules}
 use mathlib.Core.Path.{◌≡◌, sym, ap, ◌∙◌}
-use Prim.Native.Nat.{ℕ, ◌+◌, ◌*◌, ◌^◌, ◌<◌, ◌≤◌}
 use native.Mathlib.Omega.{arith}
 use borrow.Author.Tests.{eq-eqb}
 use Rattle.numerals.specs.Steps.{added, stepped}

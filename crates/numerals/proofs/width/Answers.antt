@@ -1,9 +1,7 @@
 -- `numerals::width` meets its contract: what is counted and what is left to count make up the whole (`Counting`). The measure is the rest.
-use borrow.Author.Rules.{rules}
-use Prim.Native.Nat.{◌≤◌}
 use native.Mathlib.Nat.{div-lt_self}
 use native.Mathlib.Omega.{arith}
-use Rattle.numerals.proofs.Spelling.{Counting, counting_start, counting_step, counting_end}
+use Rattle.numerals.proofs.Spelling.{counting_start, counting_step, counting_end}
 use Rattle.numerals.proofs.width.Goals as goal
 
 pub loop-rest-init : goal.loop-rest-init

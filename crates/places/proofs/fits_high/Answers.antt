@@ -1,5 +1,5 @@
 -- `places::fits_high` meets its contract.
-use Rattle.std.proofs.Common.{◌+◌, ◌-◌, arith, rules}
+use Rattle.std.proofs.Common.{◌+◌, ◌-◌, arith}
 use lib.Bits.{and_le_l}
 use Rattle.places.specs.Places.{FitsHigh}
 use Rattle.places.proofs.Windows.{over_mod, short_none, high_some, high_none}

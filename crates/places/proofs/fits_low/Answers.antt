@@ -1,5 +1,5 @@
 -- `places::fits_low` meets its contract.
-use Rattle.std.proofs.Common.{◌+◌, ◌-◌, ◌%◌, ◌<◌, mod-lt, arith, rules}
+use Rattle.std.proofs.Common.{◌+◌, ◌%◌, ◌<◌, mod-lt, arith}
 use lib.Bits.{and_le_r}
 use Rattle.places.specs.Places.{FitsLow}
 use Rattle.places.proofs.Windows.{over_mod, short_none, low_here, low_next, low_none}

@@ -1,6 +1,5 @@
 -- `places::high_at` meets its contract.
 use Rattle.places.proofs.Searches.{taken_high, free_high}
-use Rattle.std.proofs.Common.{rules}
 use Rattle.places.proofs.high_at.Goals as goal
 
 pub returns-in_default : goal.returns-in_default

@@ -1,6 +1,5 @@
 -- `places::low_at` meets its contract.
 use Rattle.places.proofs.Searches.{taken_low, free_low}
-use Rattle.std.proofs.Common.{rules}
 use Rattle.places.proofs.low_at.Goals as goal
 
 pub returns-in_default : goal.returns-in_default

@@ -1,7 +1,6 @@
 -- `places::scan_down` meets its contract.
-use Rattle.std.proofs.Common.{◌≡◌, ◌+◌, ◌-◌, ◌<◌, ◌≤◌, length, sym, arith, rules}
-use Rattle.places.proofs.Searches.{NoneFrom, none_from_start, none_from_next, down_found, down_none, down_uneven}
-use Rattle.places.proofs.Skips.{from_more}
+use Rattle.std.proofs.Common.{◌≡◌, ◌≤◌, length}
+use Rattle.places.proofs.Searches.{NoneFrom}
 use Rattle.places.proofs.scan_down.Given as goal
 
 abbrev pub invariant-loop-i : goal.invariant-loop-i

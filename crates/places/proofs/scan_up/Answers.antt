@@ -1,6 +1,6 @@
 -- `places::scan_up` meets its contract.
-use Rattle.std.proofs.Common.{◌≡◌, ◌+◌, ◌-◌, ◌<◌, ◌≤◌, length, sym, arith, rules}
-use Rattle.places.proofs.Searches.{NoneBelow, none_below_start, none_below_next, up_found, up_none, up_uneven}
+use Rattle.std.proofs.Common.{◌+◌, sym, arith}
+use Rattle.places.proofs.Searches.{none_below_start, none_below_next, up_found, up_none, up_uneven}
 use Rattle.places.proofs.Skips.{below_more}
 use Rattle.places.proofs.scan_up.Goals as goal
 

@@ -1,6 +1,5 @@
 -- `places::skip_down` meets its contract.
-use Rattle.std.proofs.Common.{◌+◌, ◌-◌, ◌<◌, ◌≤◌, length, arith, rules}
-use Rattle.places.specs.Places.{Narrow}
+use Rattle.std.proofs.Common.{arith}
 use Rattle.places.proofs.Skips.{narrow_none, narrow_down}
 use Rattle.places.proofs.skip_down.Goals as goal
 

@@ -1,7 +1,6 @@
 -- `places::skip_down` meets its contract.
-use Rattle.std.proofs.Common.{◌+◌, ◌-◌, ◌<◌, ◌≤◌, length, arith, rules}
+use Rattle.std.proofs.Common.{◌≤◌}
 use Rattle.places.specs.Places.{Narrow}
-use Rattle.places.proofs.Skips.{narrow_none, narrow_down}
 use Rattle.places.proofs.skip_down.Given as goal
 
 abbrev pub invariant-loop-i : goal.invariant-loop-i

@@ -1,6 +1,5 @@
 -- `places::skip_up` meets its contract.
-use Rattle.std.proofs.Common.{◌+◌, ◌-◌, ◌<◌, ◌≤◌, length, arith, rules}
-use Rattle.places.specs.Places.{Narrow}
+use Rattle.std.proofs.Common.{arith}
 use Rattle.places.proofs.Skips.{narrow_none, narrow_up}
 use Rattle.places.proofs.skip_up.Goals as goal
 

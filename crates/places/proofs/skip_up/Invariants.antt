@@ -1,7 +1,6 @@
 -- `places::skip_up` meets its contract.
-use Rattle.std.proofs.Common.{◌+◌, ◌-◌, ◌<◌, ◌≤◌, length, arith, rules}
+use Rattle.std.proofs.Common.{◌-◌, ◌≤◌, length}
 use Rattle.places.specs.Places.{Narrow}
-use Rattle.places.proofs.Skips.{narrow_none, narrow_up}
 use Rattle.places.proofs.skip_up.Given as goal
 
 abbrev pub invariant-loop-i : goal.invariant-loop-i

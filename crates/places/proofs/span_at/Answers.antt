@@ -1,5 +1,5 @@
 -- `places::span_at` meets its contract.
-use Rattle.std.proofs.Common.{◌+◌, get_or, sym, refl, ◌∙◌, arith, rules}
+use Rattle.std.proofs.Common.{◌+◌, sym, refl, ◌∙◌, arith}
 use lib.ListN.{get_or-eq_default}
 use Rattle.places.specs.Places.{Spans}
 use Rattle.places.proofs.Searches.{get_d_any}

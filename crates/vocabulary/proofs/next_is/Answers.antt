@@ -1,5 +1,4 @@
 -- `vocabulary::next_is` meets its contract: by the word.
-use borrow.Author.Rules.{rules}
 use mathlib.Core.Path.{sym, ap, ◌∙◌}
 use Rattle.text.specs.Words.{word_is}
 use Rattle.vocabulary.specs.Spelling.{word_text}

@@ -1,5 +1,4 @@
 -- `vocabulary::reason_is` meets its contract: by the reason.
-use borrow.Author.Rules.{rules}
 use mathlib.Core.Path.{sym, ap, ◌∙◌}
 use Rattle.text.specs.Words.{word_is}
 use Rattle.vocabulary.specs.Spelling.{reason_text}

@@ -1,7 +1,5 @@
 -- `fields::print::put_window` meets its contract: three texts, one behind the other, where there is room for all.
-use borrow.Author.Rules.{rules}
-use mathlib.Core.Path.{sym, ◌∙◌}
-use Rattle.fields.specs.Answers.{window_text}
+use mathlib.Core.Path.{◌∙◌}
 use mathlib.Core.Path.{refl, subst}
 use mathlib.Core.List.{[], ◌∷◌}
 use Prim.Native.Nat.{◌+◌, ◌≤◌}
