@@ -77,7 +77,7 @@ uint32_t rk_address_new(uint64_t *mem, size_t words, uint64_t base, uint64_t siz
 /* Grants `size` addresses that are free, from a multiple of `alignment` on: the lowest such place for RK_FIRST, the highest for RK_LAST,
  * the one at `address` for RK_EXACT (the other two do not look at `address`). *start becomes the first of them.
  * Of any sequence of calls on a block: between two grants that share an address the whole range of the first was given back by
- * rk_address_free (calls-never-twice, crates/addresses/specs/NeverTwice.antt).
+ * rk_address_free (calls_never_twice, crates/addresses/specs/NeverTwice.antt).
  * Refused, in this order: a policy of another number (RK_INVALID_POLICY); size 0 (RK_INVALID_SIZE); an alignment that is no power of two
  * (RK_INVALID_ALIGNMENT); for RK_EXACT an address that is no multiple of it (RK_UNALIGNED_ADDRESS); for RK_EXACT a free address from
  * which the range would end beyond 2^64 - 1 (RK_OVERFLOW); no such place (RK_RESOURCE_NOT_AVAILABLE); more ranges than the limit
@@ -135,7 +135,7 @@ size_t rk_id_words(uint32_t lowest, uint32_t highest);
 uint32_t rk_id_new(uint64_t *mem, size_t words, uint32_t lowest, uint32_t highest);
 
 /* Grants the lowest id that is not granted. *id becomes it.
- * Of any sequence of calls on a block: between two grants of one id there was an rk_id_free of it that was done (chain-never-twice,
+ * Of any sequence of calls on a block: between two grants of one id there was an rk_id_free of it that was done (chain_never_twice,
  * crates/ids/specs/NeverTwice.antt).
  * Refused: none is left (RK_RESOURCE_NOT_AVAILABLE; where the highest id is 2^32 - 1, RK_OVERFLOW); a block that holds no allocator
  * (RK_NO_STATE). */

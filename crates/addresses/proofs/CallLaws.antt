@@ -4,15 +4,14 @@
 --     calls_alike      two blocks whose pools have the same granted ranges answer alike for ever, whatever was done before
 --     freed_again      what `free` gives back after `allocate` leaves the state before
 -- Assumes nothing.
-use Rattle.std.proofs.Common.{◌≡◌, ℕ, ◌↔◌, List, [], ◌∷◌, sym, refl, subst}
+use Rattle.std.proofs.Common.{◌≡◌, ℕ, ◌↔◌, List, [], ◌∷◌, sym, refl, subst, Ok}
 use mathlib.Core.List.{Memᴰ}
 use Rattle.ranges.specs.declared.Constraint.{Constraint}
 use Rattle.ranges.specs.declared.RangeInclusive.{RangeInclusive}
 use Rattle.addresses.specs.declared.Answer.{Answer}
 use Rattle.addresses.specs.declared.Answer.TheVariants.{Granted, Freed}
-use Rattle.addresses.specs.declared.Setup.TheVariants.{Ready}
-use Rattle.addresses.specs.Operations.{Pool, next, fresh, Makes}
-use Rattle.addresses.specs.Runs.{Operation, Allocate, Release, Does, Runs}
+use Rattle.addresses.specs.Operations.{Pool, next, fresh}
+use Rattle.addresses.specs.Runs.{Operation, Allocate, Release, Runs}
 use Rattle.addresses.specs.After.{After, AllAsked}
 use Rattle.addresses.specs.Held.{Holds}
 use Rattle.addresses.specs.Contract.{Performs, Starts, Calls}
@@ -39,7 +38,7 @@ pub record Called (base size limit : ℕ) (os : List Operation) (xs : List Answe
   pub held : Holds m pool
   pub after : After base size limit pool
 
-pub made_calls : (base size limit : ℕ) (m n m' : List ℕ) (os : List Operation) (xs : List Answer) → Starts m base size limit Ready n → Calls n os xs m' → Called base size limit os xs m'
+pub made_calls : (base size limit : ℕ) (m n m' : List ℕ) (os : List Operation) (xs : List Answer) → Starts m base size limit (Ok tt) n → Calls n os xs m' → Called base size limit os xs m'
 unfolding Starts
 made_calls base size limit m n m' os xs s c =
     let r = calls_run n m' (fresh base size limit) os xs s.1 c in

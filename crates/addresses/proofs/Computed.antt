@@ -1,6 +1,6 @@
 -- The answers of the operations, computed from the table, and the table after an answer: what the code does, as functions on the list of its tiles.
 -- AnswerLaws proves that they are the answers that Operations states, and the only ones.
-use Rattle.std.proofs.Common.{ℕ, zero, suc, ◌+◌, ◌-◌, ◌/◌, ◌%◌, ◌^◌, Bool, true, false, cond, eqb, ltb, leb, List, [], ◌∷◌, length}
+use Rattle.std.proofs.Common.{ℕ, suc, ◌+◌, ◌-◌, ◌%◌, ◌^◌, Bool, true, false, cond, eqb, ltb, leb, List, [], ◌∷◌, length}
 use mathlib.Core.Option.{Option, none, some}
 use lib.Count.{ones}
 use Rattle.table.specs.Row.{Tile, past, lowest, highest, cut, melt}

@@ -1,6 +1,6 @@
 -- There is just one answer to each operation of a pool, it is the one that is computed from the table, and the pool after it is valid again.
 -- Assumes nothing.
-use Rattle.std.proofs.Common.{◌≡◌, ℕ, zero, suc, ◌+◌, ◌-◌, ◌/◌, ◌%◌, ◌^◌, ◌<◌, ◌≤◌, Bool, true, false, cond, eqb, ltb, leb, ◌⊎◌, ◌↔◌, List, [], ◌∷◌, ◌++◌, length, sym, refl, ap, ◌∙◌, subst, inl, inr, ⊎_elim, append-nil, mod-lt, div-add-mod', arith, pow_pos, ltb-false, eq-eqb, ne_eqb, eqb-true, leb-false, leb-true}
+use Rattle.std.proofs.Common.{◌≡◌, ℕ, suc, ◌+◌, ◌-◌, ◌/◌, ◌%◌, ◌^◌, ◌<◌, ◌≤◌, Bool, true, false, cond, eqb, ltb, leb, ◌⊎◌, ◌↔◌, List, [], ◌∷◌, ◌++◌, length, sym, refl, ap, ◌∙◌, subst, inl, inr, ⊎_elim, append-nil, div-add-mod', arith, ltb-false, eqb-true, leb-false, leb-true}
 use mathlib.Core.List.Memᴰ
 use mathlib.Core.List.{Memᴰ}
 use mathlib.Core.Option.{Option, none, some}
@@ -16,7 +16,7 @@ use Rattle.ranges.specs.Request.{Aligned}
 use Rattle.ranges.specs.declared.AllocPolicy.{AllocPolicy}
 use Rattle.ranges.specs.declared.AllocPolicy.TheVariants.{FirstMatch, LastMatch, ExactMatch}
 use Rattle.ranges.specs.declared.Constraint.{Constraint}
-use Rattle.ranges.specs.declared.Error.TheVariants.{Overflow, OutOfRange, AlreadyReleased, NeverAllocated, ResourceNotAvailable, InvalidRange, InvalidAlignment, UnalignedAddress, Underflow, InvalidSize, NoRoom, InvalidPolicy, NoState}
+use Rattle.ranges.specs.declared.Error.TheVariants.{Overflow, ResourceNotAvailable, InvalidRange, InvalidAlignment, UnalignedAddress, InvalidSize, NoRoom}
 use Rattle.ranges.specs.declared.RangeInclusive.{RangeInclusive}
 use Rattle.addresses.specs.Meaning.{State, Free, Fits, Least, Greatest, Ordered, Sound, window, granting, gap, row_from, row_of}
 use Rattle.addresses.proofs.Places.{Rule}
@@ -311,32 +311,14 @@ allocates_only p q (Granted r) o d =
     allocate_some p q o d.0 d.1 d.2
     ∙ pick_yes _ _ (tells_leb (length (cut p.state.top d.1 q.size 1 (row_of p.state))) p.limit) (rw (place_row p q o d.0 d.1 d.2) d.3)
     ∙ ap Granted (sym d.4)
-allocates_only p q (Refused Underflow) o d = absurd d
-allocates_only p q (Refused InvalidRange) o d = absurd d
-allocates_only p q (Refused OutOfRange) o d = absurd d
-allocates_only p q (Refused AlreadyReleased) o d = absurd d
-allocates_only p q (Refused NeverAllocated) o d = absurd d
-allocates_only p q (Refused InvalidPolicy) o d = absurd d
-allocates_only p q (Refused NoState) o d = absurd d
-allocates_only p q (Freed r) o d = absurd d
+allocates_only p q _ o d = absurd d
 
 pub frees_only : (p : Pool) (r : RangeInclusive) (x : Answer) → Sound p.state → Frees p r x → release p.state.top (row_of p.state) r ≡ x
 unfolding release Frees
 frees_only p r (Refused InvalidRange) o d = pick_no _ _ (tells_range r) d
 frees_only p r (Refused ResourceNotAvailable) o d = pick_yes _ _ (tells_range r) d.0 ∙ pick_no _ _ (tells_granted p.state r o) d.1
 frees_only p r (Freed q) o d = pick_yes _ _ (tells_range r) d.0 ∙ pick_yes _ _ (tells_granted p.state r o) d.1 ∙ ap Freed (sym d.2)
-frees_only p r (Refused InvalidSize) o d = absurd d
-frees_only p r (Refused InvalidAlignment) o d = absurd d
-frees_only p r (Refused UnalignedAddress) o d = absurd d
-frees_only p r (Refused Overflow) o d = absurd d
-frees_only p r (Refused Underflow) o d = absurd d
-frees_only p r (Refused NoRoom) o d = absurd d
-frees_only p r (Refused OutOfRange) o d = absurd d
-frees_only p r (Refused AlreadyReleased) o d = absurd d
-frees_only p r (Refused NeverAllocated) o d = absurd d
-frees_only p r (Refused InvalidPolicy) o d = absurd d
-frees_only p r (Refused NoState) o d = absurd d
-frees_only p r (Granted q) o d = absurd d
+frees_only p r _ o d = absurd d
 
 -- the theorem: what is computed from the table is an answer, and each answer is that
 pub does_only : (p : Pool) (o : Operation) (x : Answer) → Sound p.state → Does p o x → answer p.state.top p.limit (row_of p.state) o ≡ x

@@ -1,20 +1,19 @@
 -- Exact means exact: the four answers of an exact request that is in order are just those of the definition (exactly_just), and of
 -- the code on a block that holds a pool (exact_called).
 -- Assumes nothing.
-use Rattle.std.proofs.Common.{◌≡◌, ℕ, ◌+◌, ◌-◌, ◌<◌, ◌↔◌, List, sym, refl, ap, ◌∙◌, subst, arith}
+use Rattle.std.proofs.Common.{◌≡◌, ℕ, ◌↔◌, List, refl, subst, arith}
 use Rattle.ranges.specs.declared.AllocPolicy.TheVariants.{ExactMatch}
-use Rattle.ranges.specs.declared.RangeInclusive.{RangeInclusive}
-use Rattle.ranges.specs.declared.Error.TheVariants.{Overflow, OutOfRange, AlreadyReleased, NeverAllocated, ResourceNotAvailable, InvalidRange, InvalidAlignment, UnalignedAddress, Underflow, InvalidSize, NoRoom, InvalidPolicy, NoState}
+use Rattle.ranges.specs.declared.Error.TheVariants.{Overflow, ResourceNotAvailable, InvalidAlignment, UnalignedAddress, InvalidSize, NoRoom}
 use Rattle.ranges.specs.Request.{Proper}
 use Rattle.addresses.specs.declared.Answer.{Answer}
-use Rattle.addresses.specs.declared.Answer.TheVariants.{Granted, Freed, Refused}
+use Rattle.addresses.specs.declared.Answer.TheVariants.{Granted, Refused}
 use Rattle.addresses.specs.Meaning.{window}
-use Rattle.addresses.specs.Operations.{M, Pool, Chosen, Nowhere, Beyond, HasRoom, Allocates}
+use Rattle.addresses.specs.Operations.{Pool, Chosen, Nowhere, Beyond, HasRoom, Allocates}
 use Rattle.addresses.specs.Runs.{Does, Valid}
 use Rattle.addresses.specs.Held.{Holds}
 use Rattle.addresses.specs.Contract.{Performs, asking}
 use Rattle.addresses.specs.Steps.{Clear}
-use Rattle.addresses.specs.Exact.{PassesM, Exactly}
+use Rattle.addresses.specs.Exact.{Exactly}
 use Rattle.addresses.proofs.StepLaws.{clear_within}
 
 module _ (p : Pool) (size align at : ℕ) (v : Valid p) (o : Proper size align (ExactMatch at)) where
@@ -28,14 +27,7 @@ module _ (p : Pool) (size align at : ℕ) (v : Valid p) (o : Proper size align (
   exactly_to (Refused InvalidSize) d = absurd (omega (arith, d, o.some))
   exactly_to (Refused InvalidAlignment) d = absurd (d.1 o.power)
   exactly_to (Refused UnalignedAddress) d = absurd (d.2 o.aligned)
-  exactly_to (Refused OutOfRange) d = absurd d
-  exactly_to (Refused AlreadyReleased) d = absurd d
-  exactly_to (Refused NeverAllocated) d = absurd d
-  exactly_to (Refused InvalidRange) d = absurd d
-  exactly_to (Refused Underflow) d = absurd d
-  exactly_to (Refused InvalidPolicy) d = absurd d
-  exactly_to (Refused NoState) d = absurd d
-  exactly_to (Freed r) d = absurd d
+  exactly_to _ d = absurd d
 
   -- and each of the four is an answer of the definition
   exactly_from : (x : Answer) → Exactly p at size x → Allocates p (record { size = size; align = align; policy = ExactMatch at }) x
@@ -44,17 +36,7 @@ module _ (p : Pool) (size align at : ℕ) (v : Valid p) (o : Proper size align (
   exactly_from (Refused NoRoom) d = (o, at, (refl, record { allowed = o.aligned; free = d.0 }), d.1)
   exactly_from (Refused Overflow) d = (o, λ f. omega (arith, clear_within p.state at size o.some f.free, v.below, d.1), d)
   exactly_from (Refused ResourceNotAvailable) d = (o, λ f. d.0 f.free, d.1)
-  exactly_from (Refused InvalidSize) d = absurd d
-  exactly_from (Refused InvalidAlignment) d = absurd d
-  exactly_from (Refused UnalignedAddress) d = absurd d
-  exactly_from (Refused OutOfRange) d = absurd d
-  exactly_from (Refused AlreadyReleased) d = absurd d
-  exactly_from (Refused NeverAllocated) d = absurd d
-  exactly_from (Refused InvalidRange) d = absurd d
-  exactly_from (Refused Underflow) d = absurd d
-  exactly_from (Refused InvalidPolicy) d = absurd d
-  exactly_from (Refused NoState) d = absurd d
-  exactly_from (Freed r) d = absurd d
+  exactly_from _ d = absurd d
 
   pub exactly_just : (x : Answer) → Allocates p (record { size = size; align = align; policy = ExactMatch at }) x ↔ Exactly p at size x
   exactly_just x = (exactly_to x, exactly_from x)

@@ -3,7 +3,7 @@
 --     keeps, before                 a step changes nothing of a range that it does not name
 --     was_granted, still_granted    what is granted now is what was granted and not freed since
 -- Assumes nothing.
-use Rattle.std.proofs.Common.{◌≡◌, ℕ, suc, ◌-◌, ◌≤◌, ◌⊎◌, ◌↔◌, List, [], ◌∷◌, sym, refl, ap, ◌∙◌, subst, inl, inr, ⊎_elim, arith}
+use Rattle.std.proofs.Common.{◌≡◌, ℕ, suc, ◌≤◌, ◌⊎◌, ◌↔◌, List, [], ◌∷◌, sym, refl, ap, ◌∙◌, subst, inl, inr, ⊎_elim, arith}
 use mathlib.Core.List.Memᴰ
 use mathlib.Core.List.{Memᴰ}
 use native.Mathlib.Decide.{ℕ_discrete}
@@ -11,12 +11,10 @@ use Rattle.addresses.specs.declared.Answer.{Answer}
 use Rattle.addresses.specs.declared.Answer.TheVariants.{Granted, Freed, Refused}
 use Rattle.ranges.specs.declared.RangeInclusive.{RangeInclusive}
 use Rattle.addresses.specs.Meaning.{Ordered, remove, granting, releasing}
-use Rattle.addresses.proofs.Room.{state, ordered_mem}
+use Rattle.addresses.proofs.Room.{ordered_mem}
 use Rattle.addresses.proofs.Tiles.{granted_once, insert_keeps, insert_only, remove_keeps, remove_only}
 use Rattle.addresses.specs.Operations.{Pool, next, Allocates, Frees}
 use Rattle.addresses.specs.Runs.{Operation, Allocate, Release, Does, Runs, Valid}
-use Rattle.addresses.proofs.Computed.{answer, answered}
-use Rattle.addresses.proofs.ComputedLaws.{does}
 use Rattle.addresses.proofs.PoolLaws.{next_valid}
 use Rattle.addresses.proofs.RunLaws.{runs_unique, runs_valid, runs_same}
 

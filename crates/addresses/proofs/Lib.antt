@@ -1,3 +1,5 @@
+pub mod Passed
+pub mod Equalities
 -- Laws of the address allocator. RunLaws, HistoryLaws and ReachLaws have what holds after any sequence of operations.
 pub mod MultipleLaws
 pub mod Places

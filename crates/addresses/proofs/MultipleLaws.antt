@@ -1,6 +1,6 @@
 -- Laws of multiples, and the rule of places that `allocate` has: a range starts at a multiple of k.
 -- Assumes nothing.
-use Rattle.std.proofs.Common.{◌≡◌, ℕ, suc, ◌+◌, ◌-◌, ◌*◌, ◌/◌, ◌<◌, ◌≤◌, refl, mul-le-mul_right, mod-lt, div-lt_iff_lt-mul, div-add-mod', le-div_iff_mul-le, div-mul-le_self, arith}
+use Rattle.std.proofs.Common.{ℕ, suc, ◌+◌, ◌-◌, ◌*◌, ◌/◌, ◌<◌, ◌≤◌, refl, mul-le-mul_right, mod-lt, div-lt_iff_lt-mul, div-add-mod', le-div_iff_mul-le, div-mul-le_self, arith}
 use Rattle.ranges.specs.Align.{Multiple}
 use Rattle.table.specs.Multiples.{down, up, below}
 use Rattle.addresses.proofs.Places.{Answers}

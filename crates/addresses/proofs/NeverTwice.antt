@@ -2,7 +2,7 @@
 --     never_twice           of any sequence of operations
 --     calls_never_twice     of any calls on a block that `new` made
 -- Assumes nothing.
-use Rattle.std.proofs.Common.{◌≡◌, ℕ, ◌+◌, ◌-◌, ◌⊎◌, List, [], ◌∷◌, ◌++◌, ap, subst, ⊎_elim, arith}
+use Rattle.std.proofs.Common.{◌≡◌, ℕ, List, [], ◌∷◌, ◌++◌, ap, subst, ⊎_elim, arith, Ok}
 use mathlib.Core.List.{Memᴰ}
 use Rattle.addresses.specs.declared.Answer.{Answer}
 use Rattle.addresses.specs.declared.Answer.TheVariants.{Granted, Freed}
@@ -13,7 +13,6 @@ use Rattle.addresses.proofs.Tiles.{insert_here}
 use Rattle.addresses.specs.Operations.{Pool, next, fresh, Frees}
 use Rattle.addresses.specs.Runs.{Operation, Allocate, Release, Does, Runs, Valid}
 use Rattle.addresses.proofs.PoolLaws.{grants, next_valid}
-use Rattle.addresses.specs.declared.Setup.TheVariants.{Ready}
 use Rattle.addresses.specs.Contract.{Starts, Calls}
 use Rattle.addresses.specs.NeverTwice.{NeverTwice}
 use Rattle.addresses.proofs.HistoryLaws.{keeps}
@@ -53,7 +52,7 @@ unfolding NeverTwice
 never_twice p os xs z v w before mid behind q r x e i j = between p os before mid behind z q r x v (subst (λ (ys : List Answer). Runs p os ys z) e w) i j
 
 -- of calls on a block that `new` made
-pub calls_never_twice : (base size limit : ℕ) (m n m' : List ℕ) (os : List Operation) (xs : List Answer) → Starts m base size limit Ready n → Calls n os xs m' → NeverTwice xs
+pub calls_never_twice : (base size limit : ℕ) (m n m' : List ℕ) (os : List Operation) (xs : List Answer) → Starts m base size limit (Ok tt) n → Calls n os xs m' → NeverTwice xs
 unfolding Starts
 calls_never_twice base size limit m n m' os xs s c =
     let r = calls_run n m' (fresh base size limit) os xs s.1 c in

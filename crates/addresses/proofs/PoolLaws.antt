@@ -4,19 +4,18 @@
 --     free_undoes                  a give-back undoes a grant
 --     fits_granted, no_room_full   nothing is refused that could be granted
 -- Assumes nothing.
-use Rattle.std.proofs.Common.{◌≡◌, ℕ, suc, ◌+◌, ◌-◌, ◌<◌, ◌≤◌, cond, eqb, leb, ◌⊎◌, ◌↔◌, length, sym, refl, ap, ◌∙◌, subst, inl, inr, ⊎_elim, arith}
+use Rattle.std.proofs.Common.{◌≡◌, ℕ, suc, ◌+◌, ◌-◌, ◌<◌, ◌≤◌, cond, eqb, leb, ◌⊎◌, ◌↔◌, length, sym, refl, ap, ◌∙◌, subst, inl, inr, ⊎_elim, arith, Result, Ok, Err}
 use mathlib.Core.List.{Memᴰ}
 use native.Mathlib.Decide.{dec_le}
 use Rattle.table.specs.Row.{cut}
 use Rattle.addresses.specs.declared.Answer.{Answer}
 use Rattle.addresses.specs.declared.Answer.TheVariants.{Granted, Freed, Refused}
-use Rattle.addresses.specs.declared.Setup.{Setup}
-use Rattle.addresses.specs.declared.Setup.TheVariants.{Ready, Unfit}
 use Rattle.ranges.specs.Range.{IsRange}
 use Rattle.ranges.specs.declared.AllocPolicy.{AllocPolicy}
 use Rattle.ranges.specs.declared.AllocPolicy.TheVariants.{FirstMatch, LastMatch, ExactMatch}
 use Rattle.ranges.specs.declared.Constraint.{Constraint}
-use Rattle.ranges.specs.declared.Error.TheVariants.{Overflow, OutOfRange, AlreadyReleased, NeverAllocated, ResourceNotAvailable, InvalidRange, InvalidAlignment, UnalignedAddress, Underflow, InvalidSize, NoRoom, InvalidPolicy, NoState}
+use Rattle.ranges.specs.declared.Error.{Error}
+use Rattle.ranges.specs.declared.Error.TheVariants.{Overflow, ResourceNotAvailable, InvalidAlignment, UnalignedAddress, Underflow, InvalidSize, NoRoom}
 use Rattle.ranges.specs.declared.RangeInclusive.{RangeInclusive}
 use Rattle.addresses.specs.Meaning.{Ordered, Sound, insert, window, granting, releasing, row_of}
 use Rattle.addresses.proofs.Room.{ordered_mem}
@@ -31,12 +30,12 @@ use Rattle.addresses.proofs.ComputedLaws.{Tells, tells_leb, tells_eqb, tells_bot
 -- ---- a pool is made
 
 -- the answer of `new`, computed
-unfoldable pub make : ℕ → ℕ → ℕ → Setup
+unfoldable pub make : ℕ → ℕ → ℕ → Result Unit Error
 make base size limit =
-    cond (eqb size 0) (Unfit Underflow)
+    cond (eqb size 0) (Err Underflow)
     (cond (both (leb size M) (leb (base + size - 1) M))
-    (cond (both (leb 1 limit) (leb limit 4096)) Ready (Unfit NoRoom))
-    (Unfit Overflow))
+    (cond (both (leb 1 limit) (leb limit 4096)) (Ok tt) (Err NoRoom))
+    (Err Overflow))
 
 tells_within : (base size : ℕ) → Tells (Within base size) (both (leb size M) (leb (base + size - 1) M))
 unfolding Within
@@ -50,34 +49,25 @@ tells_lendable limit = tells_both (tells_leb 1 limit) (tells_leb limit 4096)
 pub makes : (base size limit : ℕ) → Makes base size limit (make base size limit)
 unfolding make Makes
 makes base size limit =
-    tells_cond (Makes base size limit) (Unfit Underflow) _ (tells_eqb size 0) (λ z. z) λ n.
+    tells_cond (Makes base size limit) (Err Underflow) _ (tells_eqb size 0) (λ z. z) λ n.
     let s : 0 < size = omega arith in
-    tells_cond (Makes base size limit) _ (Unfit Overflow) (tells_within base size) (λ w.
-    tells_cond (Makes base size limit) Ready (Unfit NoRoom) (tells_lendable limit) (λ l. (s, w, l)) (λ n'. (s, w, n')))
+    tells_cond (Makes base size limit) _ (Err Overflow) (tells_within base size) (λ w.
+    tells_cond (Makes base size limit) (Ok tt) (Err NoRoom) (tells_lendable limit) (λ l. (s, w, l)) (λ n'. (s, w, n')))
     (λ n'. (s, n'))
 
-pub makes_only : (base size limit : ℕ) (x : Setup) → Makes base size limit x → make base size limit ≡ x
+pub makes_only : (base size limit : ℕ) (x : Result Unit Error) → Makes base size limit x → make base size limit ≡ x
 unfolding make Makes
-makes_only base size limit (Unfit Underflow) d = pick_yes _ _ (tells_eqb size 0) d
-makes_only base size limit (Unfit Overflow) d = pick_no _ _ (tells_eqb size 0) (λ z. omega (arith, d.0)) ∙ pick_no _ _ (tells_within base size) d.1
-makes_only base size limit (Unfit NoRoom) d = pick_no _ _ (tells_eqb size 0) (λ z. omega (arith, d.0)) ∙ pick_yes _ _ (tells_within base size) d.1 ∙ pick_no _ _ (tells_lendable limit) d.2
-makes_only base size limit Ready d = pick_no _ _ (tells_eqb size 0) (λ z. omega (arith, d.0)) ∙ pick_yes _ _ (tells_within base size) d.1 ∙ pick_yes _ _ (tells_lendable limit) d.2
-makes_only base size limit (Unfit InvalidSize) d = absurd d
-makes_only base size limit (Unfit InvalidAlignment) d = absurd d
-makes_only base size limit (Unfit UnalignedAddress) d = absurd d
-makes_only base size limit (Unfit ResourceNotAvailable) d = absurd d
-makes_only base size limit (Unfit InvalidRange) d = absurd d
-makes_only base size limit (Unfit OutOfRange) d = absurd d
-makes_only base size limit (Unfit AlreadyReleased) d = absurd d
-makes_only base size limit (Unfit NeverAllocated) d = absurd d
-makes_only base size limit (Unfit InvalidPolicy) d = absurd d
-makes_only base size limit (Unfit NoState) d = absurd d
+makes_only base size limit (Err Underflow) d = pick_yes _ _ (tells_eqb size 0) d
+makes_only base size limit (Err Overflow) d = pick_no _ _ (tells_eqb size 0) (λ z. omega (arith, d.0)) ∙ pick_no _ _ (tells_within base size) d.1
+makes_only base size limit (Err NoRoom) d = pick_no _ _ (tells_eqb size 0) (λ z. omega (arith, d.0)) ∙ pick_yes _ _ (tells_within base size) d.1 ∙ pick_no _ _ (tells_lendable limit) d.2
+makes_only base size limit (Ok tt) d = pick_no _ _ (tells_eqb size 0) (λ z. omega (arith, d.0)) ∙ pick_yes _ _ (tells_within base size) d.1 ∙ pick_yes _ _ (tells_lendable limit) d.2
+makes_only base size limit _ d = absurd d
 
-pub makes_just : (base size limit : ℕ) (x : Setup) → Makes base size limit x ↔ (x ≡ make base size limit)
+pub makes_just : (base size limit : ℕ) (x : Result Unit Error) → Makes base size limit x ↔ (x ≡ make base size limit)
 makes_just base size limit x = (λ d. sym (makes_only base size limit x d), λ e. subst (Makes base size limit) (sym e) (makes base size limit))
 
 -- a pool that is made is valid
-pub made_valid : (base size limit : ℕ) → Makes base size limit Ready → Valid (fresh base size limit)
+pub made_valid : (base size limit : ℕ) → Makes base size limit (Ok tt) → Valid (fresh base size limit)
 unfolding Makes Within Lendable row_of Ordered
 made_valid base size limit d = go
   where
@@ -211,14 +201,7 @@ fits_granted p q a (Refused InvalidAlignment) w h m d = absurd (d.1 w.power)
 fits_granted p q a (Refused UnalignedAddress) w h m d = absurd (d.2 w.aligned)
 fits_granted p q a (Refused Overflow) w h m d = absurd (nowhere_place q.policy (Place p q) a d.1 h m)
 fits_granted p q a (Refused ResourceNotAvailable) w h m d = absurd (nowhere_place q.policy (Place p q) a d.1 h m)
-fits_granted p q a (Refused Underflow) w h m d = absurd d
-fits_granted p q a (Refused InvalidRange) w h m d = absurd d
-fits_granted p q a (Refused OutOfRange) w h m d = absurd d
-fits_granted p q a (Refused AlreadyReleased) w h m d = absurd d
-fits_granted p q a (Refused NeverAllocated) w h m d = absurd d
-fits_granted p q a (Refused InvalidPolicy) w h m d = absurd d
-fits_granted p q a (Refused NoState) w h m d = absurd d
-fits_granted p q a (Freed r) w h m d = absurd d
+fits_granted p q a _ w h m d = absurd d
 
 -- which it has while two more ranges are within the limit
 pub no_room_full : (p : Pool) (q : Constraint) → Sound p.state → Allocates p q (Refused NoRoom) → p.limit < length (row_of p.state) + 2

@@ -1,6 +1,6 @@
 -- The valid pools are just those that `new` and some operations make (valid_just), within the same limit.
 -- Assumes nothing.
-use Rattle.std.proofs.Common.{◌≡◌, ℕ, suc, ◌+◌, ◌-◌, ◌<◌, ◌≤◌, Bool, true, false, cond, ltb, ◌⊎◌, ◌↔◌, List, [], ◌∷◌, ◌++◌, map, length, sym, refl, ap, ⊎_elim, append_assoc, append-nil, arith, length-append, le-ltb}
+use Rattle.std.proofs.Common.{◌≡◌, ℕ, suc, ◌+◌, ◌-◌, ◌<◌, ◌≤◌, Bool, true, false, cond, ltb, ◌↔◌, List, [], ◌∷◌, ◌++◌, map, length, sym, refl, ap, ⊎_elim, append_assoc, append-nil, arith, length-append, le-ltb}
 use mathlib.Core.List.Memᴰ
 use mathlib.Core.List.{Memᴰ}
 use Rattle.addresses.specs.declared.Answer.TheVariants.{Granted}

@@ -4,14 +4,13 @@
 --     rebuild_step      the exact request for the next range is granted, and the block holds the pool with one range more
 --     rebuild_calls     so after all of them the block holds the pool
 -- Assumes nothing.
-use Rattle.std.proofs.Common.{◌≡◌, ℕ, suc, ◌+◌, ◌-◌, ◌≤◌, List, [], ◌∷◌, ◌++◌, map, length, sym, subst, append_assoc, arith}
+use Rattle.std.proofs.Common.{◌≡◌, ℕ, ◌+◌, ◌-◌, ◌≤◌, List, [], ◌∷◌, ◌++◌, map, length, subst, append_assoc, arith, Ok}
 use Rattle.ranges.specs.declared.RangeInclusive.{RangeInclusive}
 use Rattle.addresses.specs.declared.Answer.{Answer}
 use Rattle.addresses.specs.declared.Answer.TheVariants.{Granted}
-use Rattle.addresses.specs.declared.Setup.TheVariants.{Ready}
 use Rattle.addresses.specs.Meaning.{Ordered, row_from, row_of}
-use Rattle.addresses.specs.Operations.{Pool, next, fresh}
-use Rattle.addresses.specs.Runs.{Runs, Valid}
+use Rattle.addresses.specs.Operations.{Pool, next}
+use Rattle.addresses.specs.Runs.{Valid}
 use Rattle.addresses.specs.Held.{Holds}
 use Rattle.addresses.specs.Contract.{Performs, Starts, Calls}
 use Rattle.addresses.proofs.ComputedLaws.{does_unique}
@@ -27,7 +26,7 @@ having p limit qs = pool p.state.base p.state.top limit qs
 abbrev pub Roomy : Pool → ℕ → Type 0
 Roomy p limit = length (row_of p.state) ≤ limit
 
-pub rebuild_start : (p : Pool) (limit : ℕ) (m n : List ℕ) → Valid p → Starts m p.state.base (p.state.top - p.state.base) limit Ready n → Holds n (having p limit [])
+pub rebuild_start : (p : Pool) (limit : ℕ) (m n : List ℕ) → Valid p → Starts m p.state.base (p.state.top - p.state.base) limit (Ok tt) n → Holds n (having p limit [])
 unfolding Starts
 rebuild_start p limit m n v s =
     let e : p.state.base + (p.state.top - p.state.base) ≡ p.state.top = omega (arith, v.sound.some) in
@@ -47,7 +46,7 @@ rebuild_step p limit qs rs r n n' x v l g h d =
     let same : x ≡ Granted r = does_unique (having p limit qs) (ask r) x (Granted r) h.valid.sound right.0 (asked_granted base top limit qs r w j) in
     (same, subst (λ (y : Pool). Holds n' y) (asked_next base top limit qs r w j) (subst (λ (y : Answer). Holds n' (next (having p limit qs) y)) same right.1))
 
-pub rebuild_calls : (p : Pool) (limit : ℕ) (m n n' : List ℕ) (xs : List Answer) → Valid p → Roomy p limit → Starts m p.state.base (p.state.top - p.state.base) limit Ready n → Calls n (map ask p.state.granted) xs n' → (xs ≡ map Granted p.state.granted) × Holds n' (having p limit p.state.granted)
+pub rebuild_calls : (p : Pool) (limit : ℕ) (m n n' : List ℕ) (xs : List Answer) → Valid p → Roomy p limit → Starts m p.state.base (p.state.top - p.state.base) limit (Ok tt) n → Calls n (map ask p.state.granted) xs n' → (xs ≡ map Granted p.state.granted) × Holds n' (having p limit p.state.granted)
 unfolding row_of
 rebuild_calls p limit m n n' xs v l s c =
     let h = rebuild_start p limit m n v s in

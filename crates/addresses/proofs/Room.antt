@@ -4,7 +4,6 @@ use Rattle.std.proofs.Common.{◌≡◌, ℕ, suc, ◌+◌, ◌-◌, ◌<◌, �
 use mathlib.Core.List.Memᴰ
 use mathlib.Core.List.{Memᴰ}
 use native.Mathlib.Decide.{dec_le}
-use Rattle.ranges.specs.Range.{In}
 use Rattle.ranges.specs.declared.RangeInclusive.{RangeInclusive}
 use Rattle.addresses.specs.Meaning.{State, Free, Fits, Ordered, Sound}
 

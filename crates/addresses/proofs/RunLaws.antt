@@ -4,13 +4,12 @@
 --     after_runs            granted ranges lie in the pool, apart; free and granted together are the pool; no two free ranges touch
 --     asked_runs            each grant is what its request asked for
 -- Assumes nothing.
-use Rattle.std.proofs.Common.{◌≡◌, ℕ, ◌+◌, ◌-◌, List, [], ◌∷◌, sym, refl, ap, ◌∙◌, subst, arith}
+use Rattle.std.proofs.Common.{◌≡◌, ℕ, ◌+◌, List, [], ◌∷◌, sym, refl, ap, ◌∙◌, subst, arith, Ok}
 use Rattle.addresses.specs.declared.Answer.{Answer}
 use Rattle.addresses.specs.declared.Answer.TheVariants.{Granted, Freed, Refused}
-use Rattle.addresses.specs.declared.Setup.TheVariants.{Ready}
 use Rattle.ranges.specs.declared.RangeInclusive.{RangeInclusive}
 use Rattle.addresses.specs.Meaning.{Ordered, row_of}
-use Rattle.addresses.proofs.Room.{state, ordered_mem}
+use Rattle.addresses.proofs.Room.{ordered_mem}
 use Rattle.addresses.proofs.RowLaws.{covers_row, free_or_granted}
 use Rattle.addresses.proofs.Tiles.{granted_once}
 use Rattle.addresses.specs.Operations.{Pool, next, fresh, Makes, Allocates, Frees}
@@ -79,7 +78,7 @@ runs_same p (o ∷ os) (x ∷ xs) z r =
     (w.0 ∙ n.0, w.1 ∙ n.1, w.2 ∙ n.2)
 
 -- the theorem
-pub after_runs : (base size limit : ℕ) (os : List Operation) (xs : List Answer) (z : Pool) → Makes base size limit Ready → Runs (fresh base size limit) os xs z → After base size limit z
+pub after_runs : (base size limit : ℕ) (os : List Operation) (xs : List Answer) (z : Pool) → Makes base size limit (Ok tt) → Runs (fresh base size limit) os xs z → After base size limit z
 unfolding Makes
 after_runs base size limit os xs z d r = record {
   inside = λ q m. rw (← et, ← eb) (ordered_mem z.state.base z.state.top z.state.granted q o m);

@@ -1,9 +1,8 @@
 -- Runs that are computed: the one to test with, and the sequences at which the Rust departs from its documentation.
-use Rattle.std.proofs.Common.{◌≡◌, ℕ, ◌+◌, ◌-◌, List, [], ◌∷◌, refl}
+use Rattle.std.proofs.Common.{◌≡◌, ℕ, ◌+◌, ◌-◌, List, [], ◌∷◌, refl, Ok, Err}
 use lib.Count.{ones}
 use Rattle.addresses.specs.declared.Answer.{Answer}
 use Rattle.addresses.specs.declared.Answer.TheVariants.{Granted, Freed, Refused}
-use Rattle.addresses.specs.declared.Setup.TheVariants.{Ready, Unfit}
 use Rattle.ranges.specs.declared.AllocPolicy.{AllocPolicy}
 use Rattle.ranges.specs.declared.AllocPolicy.TheVariants.{FirstMatch, LastMatch, ExactMatch}
 use Rattle.ranges.specs.declared.Error.TheVariants.{ResourceNotAvailable, UnalignedAddress, InvalidRange, InvalidSize, InvalidAlignment, Overflow, NoRoom, Underflow}
@@ -53,7 +52,7 @@ test_runs : (xs : List Answer) (z : Pool) → Runs (fresh 0x1000 0x10000 4096) t
 unfolding row_of make
 test_runs xs z r = (runs_answered (fresh 0x1000 0x10000 4096) tested xs z (made_valid 0x1000 0x10000 4096 new) r).0
   where
-    new : Makes 0x1000 0x10000 4096 Ready
+    new : Makes 0x1000 0x10000 4096 (Ok tt)
     new = makes 0x1000 0x10000 4096
 
 -- where the Rust departs
@@ -106,6 +105,6 @@ unfolding answered ones
 full = refl
 
 -- pools that are made and that are not
-made : (make 0 0 0 ≡ Unfit Underflow) × (make 1 M 0 ≡ Unfit NoRoom) × (make 2 M 0 ≡ Unfit Overflow) × (make 1 M 4096 ≡ Ready) × (make 0 1 4097 ≡ Unfit NoRoom)
+made : (make 0 0 0 ≡ Err Underflow) × (make 1 M 0 ≡ Err NoRoom) × (make 2 M 0 ≡ Err Overflow) × (make 1 M 4096 ≡ Ok tt) × (make 0 1 4097 ≡ Err NoRoom)
 unfolding make
 made = (refl, refl, refl, refl, refl)

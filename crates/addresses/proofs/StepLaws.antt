@@ -4,14 +4,13 @@
 --     melt_done                   the table with the range melted back is the next pool's
 --     has_free, has_granted       the tile of an address: free, or the granted range
 -- Assumes nothing.
-use Rattle.std.proofs.Common.{◌≡◌, ℕ, suc, ◌+◌, ◌-◌, ◌%◌, ◌^◌, ◌<◌, ◌≤◌, Bool, true, false, cond, eqb, ◌⊎◌, List, [], ◌∷◌, ◌++◌, length, sym, refl, ap, ◌∙◌, subst, inl, inr, ⊎_elim, mod-eq_of_lt, arith, ne_eqb}
+use Rattle.std.proofs.Common.{◌≡◌, ℕ, ◌+◌, ◌-◌, ◌%◌, ◌^◌, ◌<◌, ◌≤◌, Bool, true, false, cond, eqb, List, [], ◌∷◌, ◌++◌, length, sym, refl, ap, ◌∙◌, inl, inr, mod-eq_of_lt, arith, ne_eqb}
 use mathlib.Core.List.{Memᴰ}
 use Rattle.ranges.specs.declared.RangeInclusive.{RangeInclusive}
-use Rattle.ranges.specs.Range.{In}
 use Rattle.table.specs.Row.{Tile, past, cut, melt}
 use Rattle.table.specs.Tiles.{Open, Has}
 use Rattle.table.specs.Tiles as tiles
-use Rattle.table.specs.Table.{Table, with_row}
+use Rattle.table.specs.Table.{with_row}
 use Rattle.table.specs.Held as table
 use Rattle.table.proofs.Holding.{holds_proper}
 use Rattle.addresses.specs.declared.Answer.TheVariants.{Granted, Freed}
@@ -20,7 +19,6 @@ use Rattle.addresses.specs.Operations.{Pool, next, HasRoom}
 use Rattle.addresses.specs.Runs.{Valid}
 use Rattle.addresses.specs.Held.{table_of, Holds}
 use Rattle.addresses.specs.Steps.{Clear}
-use Rattle.addresses.proofs.Room.{ordered_mem}
 use Rattle.addresses.proofs.Moves.{held, cut_fits, granting_sound, melt_granted, releasing_sound}
 use Rattle.addresses.proofs.RowLaws.{ranges, ranges_row, melt_length}
 use Rattle.addresses.proofs.Tiles.{granted_split}

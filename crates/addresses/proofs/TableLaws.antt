@@ -1,5 +1,5 @@
 -- For the code, which has the table and no state: the pool that a table stands for, and an operation on the table.
---     read-back                     the table of a pool stands for that pool
+--     read_back                     the table of a pool stands for that pool
 --     table_pool                    each table that covers, with tags 0 and 1, is the table of the pool that it stands for
 --     step_row, step_table          the answer that is computed from a table, and the table after it, are those of its pool
 -- Assumes nothing.

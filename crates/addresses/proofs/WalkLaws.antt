@@ -2,8 +2,8 @@
 --     walk-start, walk_step       from the start of a tile, what stands there is that tile, and the next one starts past its end
 --     has_move                    what stands at one address of a tile stands at each
 -- Assumes nothing.
-use Rattle.std.proofs.Common.{◌≡◌, ℕ, suc, ◌+◌, ◌-◌, ◌<◌, ◌≤◌, List, [], ◌∷◌, ◌++◌, sym, refl, ap, ◌∙◌, inl, inr, arith}
-use Rattle.table.specs.Row.{Tile, past, Covers}
+use Rattle.std.proofs.Common.{◌≡◌, ℕ, ◌+◌, ◌<◌, ◌≤◌, List, [], ◌∷◌, ◌++◌, sym, inl, inr, arith}
+use Rattle.table.specs.Row.{Tile, past}
 use Rattle.table.specs.Tiles.{Has}
 use Rattle.addresses.proofs.RowLaws.{Behind}
 use Rattle.addresses.proofs.Tiles.{covers_cons}

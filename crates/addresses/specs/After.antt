@@ -1,5 +1,5 @@
 -- What holds after any sequence of operations: of the pool that it ends in, and of its answers.
-use Rattle.std.specs.Prelude.{◌≡◌, ℕ, suc, ◌+◌, ◌-◌, ◌*◌, ◌<◌, ◌≤◌, ◌⊎◌, List, [], ◌∷◌, length}
+use Rattle.std.specs.Prelude.{◌≡◌, ℕ, suc, ◌+◌, ◌*◌, ◌<◌, ◌≤◌, ◌⊎◌, List, [], ◌∷◌, length}
 use mathlib.Core.List.{Memᴰ}
 use Rattle.table.specs.Row.{Covers}
 use Rattle.addresses.specs.declared.Answer.{Answer}

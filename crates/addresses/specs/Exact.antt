@@ -1,8 +1,8 @@
 -- What an exact request that is in order gets, a line each: nothing else is answered.
 use Rattle.std.specs.Prelude.{◌≡◌, ℕ, ◌+◌, ◌-◌, ◌<◌}
-use Rattle.ranges.specs.declared.Error.TheVariants.{Overflow, OutOfRange, AlreadyReleased, NeverAllocated, ResourceNotAvailable, InvalidRange, InvalidAlignment, UnalignedAddress, Underflow, InvalidSize, NoRoom, InvalidPolicy, NoState}
+use Rattle.ranges.specs.declared.Error.TheVariants.{Overflow, ResourceNotAvailable, NoRoom}
 use Rattle.addresses.specs.declared.Answer.{Answer}
-use Rattle.addresses.specs.declared.Answer.TheVariants.{Granted, Freed, Refused}
+use Rattle.addresses.specs.declared.Answer.TheVariants.{Granted, Refused}
 use Rattle.addresses.specs.Meaning.{State, Free, window}
 use Rattle.addresses.specs.Operations.{M, Pool, HasRoom}
 use Rattle.addresses.specs.Steps.{Clear}
@@ -21,14 +21,4 @@ Exactly p at size (Refused NoRoom) = Clear p.state at size × (¬ HasRoom p (win
 Exactly p at size (Refused Overflow) = PassesM p.state at size
 Exactly p at size (Refused ResourceNotAvailable) = (¬ Clear p.state at size) × (¬ PassesM p.state at size)
 -- these are all
-Exactly p at size (Freed r) = ⊥
-Exactly p at size (Refused OutOfRange) = ⊥
-Exactly p at size (Refused AlreadyReleased) = ⊥
-Exactly p at size (Refused NeverAllocated) = ⊥
-Exactly p at size (Refused InvalidRange) = ⊥
-Exactly p at size (Refused InvalidAlignment) = ⊥
-Exactly p at size (Refused UnalignedAddress) = ⊥
-Exactly p at size (Refused Underflow) = ⊥
-Exactly p at size (Refused InvalidSize) = ⊥
-Exactly p at size (Refused InvalidPolicy) = ⊥
-Exactly p at size (Refused NoState) = ⊥
+Exactly _ _ _ _ = ⊥

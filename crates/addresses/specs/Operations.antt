@@ -1,20 +1,18 @@
 -- The operations of the address allocator: which answer each gets in a pool, and the pool after it.
 -- They go by cases on the answer. That there is always an answer, and only one, is proved in ComputedLaws and PoolLaws; sequences are in Runs.
-use Rattle.std.specs.Prelude.{◌≡◌, ℕ, ◌+◌, ◌-◌, ◌<◌, ◌≤◌, [], length}
+use Rattle.std.specs.Prelude.{◌≡◌, ℕ, ◌+◌, ◌-◌, ◌<◌, ◌≤◌, [], length, Result, Ok, Err}
 use mathlib.Core.List.{Memᴰ}
 use Rattle.ranges.specs.declared.AllocPolicy.{AllocPolicy}
 use Rattle.ranges.specs.declared.AllocPolicy.TheVariants.{FirstMatch, LastMatch, ExactMatch}
 use Rattle.ranges.specs.declared.Constraint.{Constraint}
 use Rattle.ranges.specs.declared.Error.{Error}
-use Rattle.ranges.specs.declared.Error.TheVariants.{Overflow, OutOfRange, AlreadyReleased, NeverAllocated, ResourceNotAvailable, InvalidRange, InvalidAlignment, UnalignedAddress, Underflow, InvalidSize, NoRoom, InvalidPolicy, NoState}
+use Rattle.ranges.specs.declared.Error.TheVariants.{Overflow, ResourceNotAvailable, InvalidRange, InvalidAlignment, UnalignedAddress, Underflow, InvalidSize, NoRoom}
 use Rattle.ranges.specs.declared.RangeInclusive.{RangeInclusive}
 use Rattle.ranges.specs.Align.{Multiple, PowerOfTwo}
 use Rattle.ranges.specs.Range.{IsRange}
 use Rattle.ranges.specs.Request.{Aligned, Proper}
 use Rattle.addresses.specs.declared.Answer.{Answer}
 use Rattle.addresses.specs.declared.Answer.TheVariants.{Granted, Freed, Refused}
-use Rattle.addresses.specs.declared.Setup.{Setup}
-use Rattle.addresses.specs.declared.Setup.TheVariants.{Ready, Unfit}
 use Rattle.addresses.specs.Meaning.{State, Free, Fits, Least, Greatest, window, granting, releasing, row_of}
 
 -- the highest address
@@ -48,23 +46,14 @@ abbrev pub fresh : ℕ → ℕ → ℕ → Pool
 fresh base size limit = record { state = record { base = base; top = base + size; granted = [] }; limit = limit }
 
 -- what making a pool answers; the refusals stand in the order in which they are given
-unfoldable pub Makes : ℕ → ℕ → ℕ → Setup → Type 0
+unfoldable pub Makes : ℕ → ℕ → ℕ → Result (Unit {0}) Error → Type 0
 unfolding Within Lendable
-Makes base size limit (Unfit Underflow) = size ≡ 0
-Makes base size limit (Unfit Overflow) = (0 < size) × (¬ Within base size)
-Makes base size limit (Unfit NoRoom) = (0 < size) × Within base size × (¬ Lendable limit)
-Makes base size limit Ready = (0 < size) × Within base size × Lendable limit
+Makes base size limit (Err Underflow) = size ≡ 0
+Makes base size limit (Err Overflow) = (0 < size) × (¬ Within base size)
+Makes base size limit (Err NoRoom) = (0 < size) × Within base size × (¬ Lendable limit)
+Makes base size limit (Ok tt) = (0 < size) × Within base size × Lendable limit
 -- no other reason is given
-Makes base size limit (Unfit OutOfRange) = ⊥
-Makes base size limit (Unfit AlreadyReleased) = ⊥
-Makes base size limit (Unfit NeverAllocated) = ⊥
-Makes base size limit (Unfit ResourceNotAvailable) = ⊥
-Makes base size limit (Unfit InvalidRange) = ⊥
-Makes base size limit (Unfit InvalidAlignment) = ⊥
-Makes base size limit (Unfit UnalignedAddress) = ⊥
-Makes base size limit (Unfit InvalidSize) = ⊥
-Makes base size limit (Unfit InvalidPolicy) = ⊥
-Makes base size limit (Unfit NoState) = ⊥
+Makes _ _ _ _ = ⊥
 
 -- ---- a range is asked for
 
@@ -111,14 +100,7 @@ Allocates p q (Refused ResourceNotAvailable) = InOrder q × Nowhere q.policy (Pl
 Allocates p q (Refused NoRoom) = InOrder q × (a : ℕ) × Chosen q.policy (Place p q) a × (¬ HasRoom p (window a q.size))
 Allocates p q (Granted r) = InOrder q × (a : ℕ) × Chosen q.policy (Place p q) a × HasRoom p (window a q.size) × (r ≡ window a q.size)
 -- nothing else is answered
-Allocates p q (Refused OutOfRange) = ⊥
-Allocates p q (Refused AlreadyReleased) = ⊥
-Allocates p q (Refused NeverAllocated) = ⊥
-Allocates p q (Refused InvalidRange) = ⊥
-Allocates p q (Refused Underflow) = ⊥
-Allocates p q (Refused InvalidPolicy) = ⊥
-Allocates p q (Refused NoState) = ⊥
-Allocates p q (Freed r) = ⊥
+Allocates _ _ _ = ⊥
 
 -- ---- a range is given back
 
@@ -128,15 +110,4 @@ Frees p r (Refused InvalidRange) = ¬ IsRange r.start r.end
 Frees p r (Refused ResourceNotAvailable) = IsRange r.start r.end × (¬ Memᴰ r p.state.granted)
 Frees p r (Freed q) = IsRange r.start r.end × Memᴰ r p.state.granted × (q ≡ r)
 -- nothing else is answered
-Frees p r (Refused Overflow) = ⊥
-Frees p r (Refused OutOfRange) = ⊥
-Frees p r (Refused AlreadyReleased) = ⊥
-Frees p r (Refused NeverAllocated) = ⊥
-Frees p r (Refused InvalidAlignment) = ⊥
-Frees p r (Refused UnalignedAddress) = ⊥
-Frees p r (Refused Underflow) = ⊥
-Frees p r (Refused InvalidSize) = ⊥
-Frees p r (Refused NoRoom) = ⊥
-Frees p r (Refused InvalidPolicy) = ⊥
-Frees p r (Refused NoState) = ⊥
-Frees p r (Granted q) = ⊥
+Frees _ _ _ = ⊥

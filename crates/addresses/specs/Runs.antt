@@ -1,9 +1,8 @@
 -- Sequences of operations: the answers that they get, one after the other, and the pool that they end in.
-use Rattle.std.specs.Prelude.{◌≡◌, ℕ, ◌+◌, ◌≤◌, List, [], ◌∷◌, length}
+use Rattle.std.specs.Prelude.{◌≡◌, ℕ, ◌+◌, ◌≤◌, List, [], ◌∷◌, length, Ok}
 use Rattle.ranges.specs.declared.Constraint.{Constraint}
 use Rattle.ranges.specs.declared.RangeInclusive.{RangeInclusive}
 use Rattle.addresses.specs.declared.Answer.{Answer}
-use Rattle.addresses.specs.declared.Setup.{Setup}
 use Rattle.addresses.specs.Meaning.{Sound, row_of}
 use Rattle.addresses.specs.Operations.{M, Pool, next, fresh, Makes, Allocates, Frees}
 
@@ -39,7 +38,7 @@ pub record Reached (p : Pool) : Type 0 where
   pub base : ℕ
   pub size : ℕ
   pub limit : ℕ
-  pub made : Makes base size limit Setup.Ready
+  pub made : Makes base size limit (Ok tt)
   pub operations : List Operation
   pub answers : List Answer
   pub come : Runs (fresh base size limit) operations answers p

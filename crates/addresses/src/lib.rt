@@ -4,33 +4,49 @@
 #![tactic(auto)]
 
 ghost use Rattle.std.specs.Prelude.{◌≡◌, ◌+◌, ◌<◌, length};
-ghost use Rattle.ranges.specs.Request.{Proper};
 ghost use Rattle.table.specs.Held.{words_for};
 ghost use Rattle.addresses.specs.Meaning.{row_of};
-ghost use Rattle.addresses.specs.Operations.{Pool};
+ghost use Rattle.addresses.specs.Operations.{Pool, InOrder};
 ghost use Rattle.addresses.specs.Held.{Holds};
-ghost use Rattle.addresses.specs.Contract.{Performs, asking, returning, Starts, Says, Shows};
-ghost use Rattle.addresses.specs.Steps.{Grants, PastTheEnd, Releases};
+ghost use Rattle.addresses.specs.Contract.{granted, freed, Performs, asking, returning, Starts, Says, Shows};
+ghost use Rattle.addresses.specs.Steps.{why_no_place, why_unchanged, why_not_there, Grants, PastTheEnd, Places};
 
-use ranges::{AllocPolicy, Constraint, ConstraintMade, Error, RangeInclusive, RangeMade};
-use table::{Begun, Change, Place, Stands};
+use ranges::{AllocPolicy, Constraint, Error, RangeInclusive};
+use table::{AtError, ChangeError, PlaceError, Stands};
 
-// What an operation answers: a range is granted, the range that was given back is free, or nothing is done.
-#[derive(Clone, Copy)]
+// What an operation answers: a range is granted, the range that was given back is free, or nothing is done. `allocate` and `free`
+// return a `Result`; this stays beside it, since what is said of sequences of calls (specs/Runs.antt) speaks of the answers of both.
+#[derive(Clone, Copy, PartialEq, Eq)]
 pub enum Answer {
     Granted(RangeInclusive),
     Freed(RangeInclusive),
     Refused(Error),
 }
 
-// Whether an allocator was made.
-#[derive(Clone, Copy)]
-pub enum Setup {
-    Ready,
-    Unfit(Error),
+impl Answer {
+    // The answer to a request, of what `allocate` returns.
+    pub fn granted(returned: Result<RangeInclusive, Error>) -> Answer
+        ensures { result ≡ granted returned }
+    {
+        match returned {
+            Ok(range) => Answer::Granted(range),
+            Err(e) => Answer::Refused(e),
+        }
+    }
+
+    // The answer to a give-back, of what `free` returns.
+    pub fn freed(returned: Result<RangeInclusive, Error>) -> Answer
+        ensures { result ≡ freed returned }
+    {
+        match returned {
+            Ok(range) => Answer::Freed(range),
+            Err(e) => Answer::Refused(e),
+        }
+    }
 }
 
-// How many words a block for `limit` ranges takes; 0 where the limit is not 1 to 4,096.
+// How many words a block for `limit` ranges takes; 0 where the limit is not 1 to 4,096. A number and no Option, as `base`, `end` and `count`:
+// it could not fail, and C asks it.
 pub fn words(limit: usize) -> usize
     ensures { result ≡ words_for limit }
 {
@@ -40,66 +56,44 @@ pub fn words(limit: usize) -> usize
 // An allocator for the `size` addresses from base on, of which nothing is granted, with room for `limit` ranges, free and granted
 // together. Refused, in this order: "underflow" for size 0; "overflow" where the pool would pass 2^64 - 1; "no room" for a limit
 // that is not 1 to 4,096, and for a block that is too short for it.
-pub fn new(mem: &mut [u64], base: u64, size: u64, limit: usize) -> Setup
+pub fn new(mem: &mut [u64], base: u64, size: u64, limit: usize) -> Result<(), Error>
     ensures { Starts mem.old base size limit result mem.new }
 {
-    if size == 0 {
-        return Setup::Unfit(Error::Underflow);
-    }
-    if u64::MAX - base < size - 1 {
-        return Setup::Unfit(Error::Overflow);
-    }
-    let begun = table::make(mem, base, base + (size - 1), limit);
-    match begun {
-        Begun::Done => Setup::Ready,
-        Begun::Unfit => Setup::Unfit(Error::NoRoom),
-        Begun::Short => Setup::Unfit(Error::NoRoom),
+    let more = size.checked_sub(1).ok_or(Error::Underflow)?;
+    let last = base.checked_add(more).ok_or(Error::Overflow)?;
+    table::make(mem, base, last, limit).map_err(|_| Error::NoRoom)
+}
+
+// Why a request is refused for which the table has no place.
+fn no_place(e: PlaceError) -> Error
+    ensures { result ≡ why_no_place e }
+{
+    match e {
+        PlaceError::Nowhere => Error::ResourceNotAvailable,
+        PlaceError::Unfit => Error::InvalidAlignment,
+        PlaceError::NoTable => Error::NoState,
     }
 }
 
-// Grants the `size` addresses from a, if they are free and the table has room.
-fn grant(mem: &mut [u64], a: u64, size: u64) -> Answer
-    requires { 0 < size }
-    ensures { Grants mem.old a size result mem.new }
+// Why an operation is refused for which the table was not changed.
+fn unchanged(e: ChangeError) -> Error
+    ensures { result ≡ why_unchanged e }
 {
-    let done = table::cut(mem, a, size, 1);
-    match done {
-        Change::Done => Answer::Granted(RangeInclusive {
-            start: a,
-            end: std::num::wrapping_add_u64(a, size - 1),
-        }),
-        Change::Absent => Answer::Refused(Error::ResourceNotAvailable),
-        Change::Full => Answer::Refused(Error::NoRoom),
-        Change::Unfit => Answer::Refused(Error::InvalidSize),
-        Change::NoTable => Answer::Refused(Error::NoState),
+    match e {
+        ChangeError::Absent => Error::ResourceNotAvailable,
+        ChangeError::Full => Error::NoRoom,
+        ChangeError::Unfit => Error::InvalidSize,
+        ChangeError::NoTable => Error::NoState,
     }
 }
 
-// Grants the lowest range for a request that is in order.
-fn first(mem: &mut [u64], size: u64, align: u64) -> Answer
-    requires { Proper size align AllocPolicy.FirstMatch }
-    ensures { Performs mem.old (asking size align AllocPolicy.FirstMatch) result mem.new }
+// Why an address is refused at which no range stands.
+fn not_there(e: AtError) -> Error
+    ensures { result ≡ why_not_there e }
 {
-    let place = table::lowest(mem, size, align);
-    match place {
-        Place::At(a) => grant(mem, a, size),
-        Place::Nowhere => Answer::Refused(Error::ResourceNotAvailable),
-        Place::Unfit => Answer::Refused(Error::InvalidAlignment),
-        Place::NoTable => Answer::Refused(Error::NoState),
-    }
-}
-
-// Grants the highest.
-fn last(mem: &mut [u64], size: u64, align: u64) -> Answer
-    requires { Proper size align AllocPolicy.LastMatch }
-    ensures { Performs mem.old (asking size align AllocPolicy.LastMatch) result mem.new }
-{
-    let place = table::highest(mem, size, align);
-    match place {
-        Place::At(a) => grant(mem, a, size),
-        Place::Nowhere => Answer::Refused(Error::ResourceNotAvailable),
-        Place::Unfit => Answer::Refused(Error::InvalidAlignment),
-        Place::NoTable => Answer::Refused(Error::NoState),
+    match e {
+        AtError::Outside => Error::ResourceNotAvailable,
+        AtError::NoTable => Error::NoState,
     }
 }
 
@@ -107,96 +101,70 @@ fn last(mem: &mut [u64], size: u64, align: u64) -> Answer
 fn past_the_end(mem: &[u64], a: u64) -> Error
     ensures { (p : Pool) → Holds mem.now p → PastTheEnd p a result }
 {
-    let stands = table::at(mem, a);
-    match stands {
-        Stands::In {
-            start: _,
-            end: _,
-            tag,
-        } => {
-            if tag == 0 {
-                return Error::Overflow;
-            }
-            Error::ResourceNotAvailable
-        }
-        Stands::Outside => Error::ResourceNotAvailable,
-        Stands::NoTable => Error::NoState,
+    match table::at(mem, a) {
+        Ok(stands) if stands.tag == 0 => Error::Overflow,
+        Ok(_) => Error::ResourceNotAvailable,
+        Err(e) => not_there(e),
     }
 }
 
-// Grants the range that starts at a. What it answers, a line each and no other, is `Exactly` (specs/Exact.antt; `exact-called`).
-fn exact(mem: &mut [u64], a: u64, size: u64, align: u64) -> Answer
-    requires { Proper size align (AllocPolicy.ExactMatch a) }
-    ensures { Performs mem.old (asking size align (AllocPolicy.ExactMatch a)) result mem.new }
+// Where the range for a request that is in order is to start. What an exact request gets, a line each and no other, is `Exactly`
+// (specs/Exact.antt; `exact_called`).
+fn place(mem: &[u64], q: Constraint) -> Result<u64, Error>
+    requires { InOrder q }
+    ensures { Places mem.now q result }
 {
-    if u64::MAX - a < size - 1 {
-        return Answer::Refused(past_the_end(mem, a));
+    match q.policy {
+        AllocPolicy::FirstMatch => table::lowest(mem, q.size, q.align).map_err(no_place),
+        AllocPolicy::LastMatch => table::highest(mem, q.size, q.align).map_err(no_place),
+        AllocPolicy::ExactMatch(a) => match a.checked_add(q.size - 1) {
+            Some(_) => Ok(a),
+            None => Err(past_the_end(mem, a)),
+        },
     }
-    grant(mem, a, size)
+}
+
+// Grants the `size` addresses from a, if they are free and the table has room.
+fn grant(mem: &mut [u64], a: u64, size: u64) -> Result<RangeInclusive, Error>
+    requires { 0 < size }
+    ensures { Grants mem.old a size (granted result) mem.new }
+{
+    table::cut(mem, a, size, 1).map_err(unchanged)?;
+    Ok(RangeInclusive {
+        start: a,
+        end: a.wrapping_add(size - 1),
+    })
 }
 
 // Grants the lowest, the highest, or the named range of `size` addresses from a multiple of the alignment on. Refused, in this
 // order: a request that is not in order, with the reason that `Constraint::new` gives; "overflow" for an exact range whose address
 // is free and whose end would pass 2^64 - 1; "not available" where there is no place; "no room" where the table is full.
-// Of any sequence of calls (`calls-never-twice`): between two grants that share an address the whole range of the first was given back.
-pub fn allocate(mem: &mut [u64], size: u64, align: u64, policy: AllocPolicy) -> Answer
-    ensures { Performs mem.old (asking size align policy) result mem.new }
+// Of any sequence of calls (`calls_never_twice`): between two grants that share an address the whole range of the first was given back.
+pub fn allocate(
+    mem: &mut [u64],
+    size: u64,
+    align: u64,
+    policy: AllocPolicy,
+) -> Result<RangeInclusive, Error>
+    ensures { Performs mem.old (asking size align policy) (granted result) mem.new }
 {
-    let made = Constraint::new(size, align, policy);
-    if let ConstraintMade::Refused(e) = made {
-        return Answer::Refused(e);
-    }
-    match policy {
-        AllocPolicy::FirstMatch => first(mem, size, align),
-        AllocPolicy::LastMatch => last(mem, size, align),
-        AllocPolicy::ExactMatch(a) => exact(mem, a, size, align),
-    }
-}
-
-// Gives back a range that is granted.
-fn release(mem: &mut [u64], start: u64, end: u64) -> Answer
-    ensures { Releases mem.old start end result mem.new }
-{
-    let done = table::melt(mem, start);
-    match done {
-        Change::Done => Answer::Freed(RangeInclusive { start, end }),
-        Change::Absent => Answer::Refused(Error::ResourceNotAvailable),
-        Change::Full => Answer::Refused(Error::NoRoom),
-        Change::Unfit => Answer::Refused(Error::InvalidSize),
-        Change::NoTable => Answer::Refused(Error::NoState),
-    }
+    let q = Constraint::new(size, align, policy)?;
+    let a = place(mem, q)?;
+    grant(mem, a, q.size)
 }
 
 // Gives back the range from start to end, which must be granted, just so. Refused, in this order: "invalid range" for a pair that
 // is no range; "not available" for any other that is not granted.
-pub fn free(mem: &mut [u64], start: u64, end: u64) -> Answer
-    ensures { Performs mem.old (returning start end) result mem.new }
+pub fn free(mem: &mut [u64], start: u64, end: u64) -> Result<RangeInclusive, Error>
+    ensures { Performs mem.old (returning start end) (freed result) mem.new }
 {
-    let made = RangeInclusive::new(start, end);
-    if let RangeMade::Refused(e) = made {
-        return Answer::Refused(e);
+    let r = RangeInclusive::new(start, end)?;
+    let stands = table::at(mem, start).map_err(not_there)?;
+    if stands.tag == 0 || stands.start != start || stands.end != end {
+        return Err(Error::ResourceNotAvailable);
     }
-    let stands = table::at(mem, start);
-    match stands {
-        Stands::In {
-            start: s,
-            end: e,
-            tag,
-        } => {
-            if tag == 0 {
-                return Answer::Refused(Error::ResourceNotAvailable);
-            }
-            if s != start {
-                return Answer::Refused(Error::ResourceNotAvailable);
-            }
-            if e != end {
-                return Answer::Refused(Error::ResourceNotAvailable);
-            }
-            release(mem, start, end)
-        }
-        Stands::Outside => Answer::Refused(Error::ResourceNotAvailable),
-        Stands::NoTable => Answer::Refused(Error::NoState),
-    }
+    table::melt(mem, start).map_err(unchanged)?;
+    Ok(r)
 }
 
 // The pool's first address; 0 where the block holds no allocator.
@@ -220,8 +188,9 @@ pub fn count(mem: &[u64]) -> usize
     table::count(mem)
 }
 
-// The range that the address a lies in: its first and its last address, and its tag, 0 for a free one.
-pub fn at(mem: &[u64], a: u64) -> Stands
+// The range that the address a lies in: its first and its last address, and its tag, 0 for a free one. Refused: an address that is
+// not the pool's, and a block that holds no allocator.
+pub fn at(mem: &[u64], a: u64) -> Result<Stands, AtError>
     ensures { Shows mem.now a result }
 {
     table::at(mem, a)

@@ -3,70 +3,40 @@
 // the stored output.
 #![tactic(auto)]
 
-use addresses::{Answer, Setup};
 use ranges::{AllocPolicy, RangeInclusive};
 use std::io;
-use table::Stands;
 
 const M: u64 = u64::MAX;
 
 // The range that a lies in, a granted one in brackets; answers the address past it.
 fn tile(rt: &impl Print, mem: &[u64], a: u64) -> io::Result<u64> {
-    let stands = addresses::at(mem, a);
-    match stands {
-        Stands::In { start, end, tag } => {
-            if tag == 0 {
-                say::text(rt, b"  ")?;
-                say::window(rt, RangeInclusive { start, end })?;
-            } else {
-                say::text(rt, b"  [")?;
-                say::window(rt, RangeInclusive { start, end })?;
-                say::text(rt, b"]")?;
-            }
-            Ok(std::num::wrapping_add_u64(end, 1))
-        }
-        Stands::Outside => Ok(a),
-        Stands::NoTable => Ok(a),
+    let Ok(s) = addresses::at(mem, a) else {
+        return Ok(a);
+    };
+    let r = RangeInclusive {
+        start: s.start,
+        end: s.end,
+    };
+    if s.tag == 0 {
+        print!(rt; "  {r}")?;
+    } else {
+        print!(rt; "  [{r}]")?;
     }
+    Ok(s.end.wrapping_add(1))
 }
 
 // The ranges of the pool in order.
 fn row(rt: &impl Print, mem: &[u64]) -> io::Result<()> {
-    let n = addresses::count(mem);
     let mut a = addresses::base(mem);
-    let mut i = 0;
-    while i < n {
+    for _ in 0..addresses::count(mem) {
         a = tile(rt, mem, a)?;
-        i += 1;
     }
-    say::text(rt, b"\n")
+    println!(rt; "")
 }
 
 fn pool(rt: &impl Print, mem: &mut [u64], base: u64, size: u64, limit: usize) -> io::Result<()> {
-    say::text(rt, b"pool ")?;
-    say::hex(rt, base)?;
-    say::text(rt, b" size ")?;
-    say::hex(rt, size)?;
-    say::text(rt, b": ")?;
-    match addresses::new(mem, base, size, limit) {
-        Setup::Ready => say::text(rt, b"ready\n"),
-        Setup::Unfit(e) => {
-            say::reason(rt, e)?;
-            say::text(rt, b"\n")
-        }
-    }
-}
-
-fn answer(rt: &impl Print, x: Answer) -> io::Result<()> {
-    match x {
-        Answer::Granted(r) => say::window(rt, r)?,
-        Answer::Freed(r) => {
-            say::window(rt, r)?;
-            say::text(rt, b" freed")?;
-        }
-        Answer::Refused(e) => say::reason(rt, e)?,
-    }
-    say::text(rt, b"\n")
+    print!(rt; "pool {base:#x} size {size:#x}: ")?;
+    say::answer(rt, addresses::new(mem, base, size, limit).map(|_| "ready"))
 }
 
 fn ask(
@@ -76,20 +46,13 @@ fn ask(
     align: u64,
     policy: AllocPolicy,
 ) -> io::Result<()> {
-    say::text(rt, b"allocate ")?;
-    say::hex(rt, size)?;
-    say::text(rt, b" align ")?;
-    say::hex(rt, align)?;
+    print!(rt; "allocate {size:#x} align {align:#x} ")?;
     match policy {
-        AllocPolicy::FirstMatch => say::text(rt, b" first: ")?,
-        AllocPolicy::LastMatch => say::text(rt, b" last: ")?,
-        AllocPolicy::ExactMatch(a) => {
-            say::text(rt, b" exact ")?;
-            say::hex(rt, a)?;
-            say::text(rt, b": ")?;
-        }
+        AllocPolicy::FirstMatch => print!(rt; "first: ")?,
+        AllocPolicy::LastMatch => print!(rt; "last: ")?,
+        AllocPolicy::ExactMatch(a) => print!(rt; "exact {a:#x}: ")?,
     }
-    answer(rt, addresses::allocate(mem, size, align, policy))?;
+    say::answer(rt, addresses::allocate(mem, size, align, policy))?;
     row(rt, mem)
 }
 
@@ -106,10 +69,11 @@ fn exact(rt: &impl Print, mem: &mut [u64], size: u64, align: u64, a: u64) -> io:
 }
 
 fn back(rt: &impl Print, mem: &mut [u64], start: u64, end: u64) -> io::Result<()> {
-    say::text(rt, b"free ")?;
-    say::window(rt, RangeInclusive { start, end })?;
-    say::text(rt, b": ")?;
-    answer(rt, addresses::free(mem, start, end))?;
+    print!(rt; "free {}: ", RangeInclusive { start, end })?;
+    match addresses::free(mem, start, end) {
+        Ok(r) => println!(rt; "{r} freed")?,
+        Err(e) => println!(rt; "{e}")?,
+    }
     row(rt, mem)
 }
 

@@ -1,13 +1,13 @@
 -- Counting the zeros among the digits of a word, and among the bits of a run of words, a word or a bit at a time.
 -- Assumes nothing.
-use mathlib.Core.Path.{◌≡◌, sym, ◌∙◌, subst}
+use mathlib.Core.Path.{◌≡◌, sym, ap, ◌∙◌, subst}
 use mathlib.Core.Logic.{⊎_elim}
 use mathlib.Core.Bool.{Bool, true, false}
 use mathlib.Core.List.{List}
 use Prim.Native.Nat.{ℕ, zero, suc, ◌+◌, ◌-◌, ◌*◌, ◌/◌, ◌%◌, ◌^◌, ◌<◌}
 use native.Mathlib.Nat.{add-zero, eq-zero-or-pos}
 use native.Mathlib.Omega.{arith}
-use lib.Count.{ones, ones_step, ones-le}
+use lib.Count.{ones, ones_step, ones-le, ones-ones}
 use lib.ListN.{get_or}
 use Rattle.ranges.specs.Align.{Decides}
 use Rattle.ranges.specs.Count.{Count, one, skip}
@@ -39,6 +39,15 @@ digits_count P (suc k) w b n h f g c =
     (λ j m d p. g (suc j) (omega arith) (digit_suc w j ∙ d) (subst P (let e : suc b + j ≡ b + suc j = omega arith in e) p))
     (skip (λ p. g 0 (omega arith) (digit_zero w ∙ omega arith) (subst P (sym (add-zero b)) p)) c))))
     (eq-zero-or-pos (w % 2))
+
+-- the digits that are 1 in a number and those that are 1 in its complement are all k
+pub ones_not : (k n : ℕ) → n < 2 ^ k → ones (2 ^ k - 1 - n) + ones n ≡ k
+ones_not zero n h = let z : n ≡ 0 = omega arith in rw z (omega (arith, ones-ones 0))
+ones_not (suc k) n h =
+    let i = ones_not k (n / 2) (omega arith) in
+    let m : ℕ = 2 ^ suc k - 1 - n in
+    let e : m / 2 ≡ 2 ^ k - 1 - n / 2 = omega arith in
+    omega (arith, i, ones_step n, ones_step m, ap ones e)
 
 -- the zeros of one word more
 pub word_zeros : (ws : List ℕ) (k n : ℕ) → get_or ws k 0 < 2 ^ 64 → Count (λ j. bit ws j ≡ 0) (k * 64) n

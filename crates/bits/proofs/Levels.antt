@@ -6,6 +6,11 @@
 --     mid_tail, put_tail                    the part of a slice from a on, lent and given back
 -- Assumes nothing.
 use mathlib.Core.Path.{◌≡◌, refl, sym, ap, ◌∙◌, subst}
+use mathlib.Core.Bool.{Bool, true, false}
+use lib.Dec.{eqb}
+use borrow.Author.Tests.{eq-eqb}
+use Rattle.std.proofs.lemmas.Bool.{eqb-true}
+use Rattle.ranges.specs.Align.{Decides}
 use mathlib.Core.Logic.{◌⊎◌, inl, inr, ⊎_elim}
 use mathlib.Core.List.{List, ◌++◌, append-nil}
 use Prim.Native.Nat.{ℕ, zero, suc, ◌+◌, ◌-◌, ◌*◌, ◌/◌, ◌%◌, ◌^◌, ◌≤◌, ◌<◌}
@@ -56,6 +61,15 @@ pub bit_past : (ws : List ℕ) (j : ℕ) → length ws ≤ j / 64 → bit ws j �
 unfolding bit digit
 bit_past ws j h =
     ap (λ (x : ℕ). x / 2 ^ (j % 64) % 2) (get_or-eq_default ws 0 h) ∙ ap (λ (x : ℕ). x % 2) (zero-div (2 ^ (j % 64)))
+
+-- whether the digit is 1 says whether the bit is
+decides_one : (b : Bool) (n : ℕ) → b ≡ eqb n 1 → Decides b (n ≡ 1)
+decides_one true n e = eqb-true n 1 (sym e)
+decides_one false n e = λ h. cc (e, eq-eqb n 1 h)
+
+pub bit_decides : (ws : List ℕ) (j : ℕ) → Decides (eqb (get_or ws (j / 64) 0 / 2 ^ (j % 64) % 2) 1) (bit ws j ≡ 1)
+unfolding bit digit
+bit_decides ws j = decides_one (eqb (get_or ws (j / 64) 0 / 2 ^ (j % 64) % 2) 1) (get_or ws (j / 64) 0 / 2 ^ (j % 64) % 2) refl
 
 -- a bit of a full word
 pub full_bit : (ws : List ℕ) (j : ℕ) → get_or ws (j / 64) 0 ≡ 2 ^ 64 - 1 → bit ws j ≡ 1

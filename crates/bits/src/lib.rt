@@ -11,7 +11,7 @@ ghost use Rattle.bits.specs.Bits.{bit, LowOnes, Toggled, Finds, Flips, Takes, Cl
 fn low_ones(w: u64) -> u64
     ensures { LowOnes 64 w result }
 {
-    u64::trailing_zeros(!w) as u64
+    w.trailing_ones() as u64
 }
 
 // The word with its digit t % 64 changed.
@@ -37,8 +37,7 @@ pub fn find(mem: &[u64], last: u32) -> u64
     if (above as u64) < i {
         return u64::MAX;
     }
-    let w = i as usize;
-    i * 64 + low_ones(mem[w])
+    i * 64 + low_ones(mem[i as usize])
 }
 
 // Changes bit i of the bits 0 to last, and the summaries where its word becomes full or ceases to be.
@@ -49,10 +48,7 @@ pub fn flip(mem: &mut [u64], last: u32, i: u32)
     let top = above as usize;
     let up = i / 64;
     let w = up as usize;
-    if mem.len() <= top {
-        return;
-    }
-    if top < w {
+    if mem.len() <= top || top < w {
         return;
     }
     let old = mem[w];
@@ -61,10 +57,8 @@ pub fn flip(mem: &mut [u64], last: u32, i: u32)
     if top == 0 {
         return;
     }
-    if old != u64::MAX {
-        if new != u64::MAX {
-            return;
-        }
+    if old != u64::MAX && new != u64::MAX {
+        return;
     }
     flip(&mut mem[top + 1..], above, up);
 }
@@ -74,14 +68,7 @@ pub fn is_set(mem: &[u64], i: u32) -> bool
     ensures { Decides result (bit mem.now i ≡ 1) }
 {
     let w = (i / 64) as usize;
-    if mem.len() <= w {
-        return false;
-    }
-    if (mem[w] >> (i % 64)) % 2 == 1 {
-        true
-    } else {
-        false
-    }
+    w < mem.len() && (mem[w] >> (i % 64)) % 2 == 1
 }
 
 // How many words hold the bits 0 to last and their summaries.
@@ -100,13 +87,8 @@ pub fn room(last: u32) -> usize
 pub fn clear(mem: &mut [u64], n: usize)
     ensures { Clears mem.old n mem.new }
 {
-    if mem.len() < n {
-        return;
-    }
-    let mut k = 0;
-    while k < n {
-        mem[k] = 0;
-        k += 1;
+    if n <= mem.len() {
+        mem[..n].fill(0);
     }
 }
 
@@ -119,18 +101,13 @@ pub fn zeros(mem: &[u64], last: u32) -> u64
         return 0;
     }
     let mut n: u64 = 0;
-    let mut k: usize = 0;
-    while k < top {
-        n += 64 - u64::count_ones(mem[k]) as u64;
-        k += 1;
+    for w in &mem[..top] {
+        n += w.count_zeros() as u64;
     }
-    let end = last as u64;
-    let mut i = (last / 64 * 64) as u64;
-    while i <= end {
+    for i in (last / 64 * 64) as u64..last as u64 + 1 {
         if !is_set(mem, i as u32) {
             n += 1;
         }
-        i += 1;
     }
     n
 }

@@ -5,10 +5,9 @@ use mathlib.Core.List.{List}
 use native.Mathlib.Decide.{dec_lt}
 use native.Mathlib.Omega.{arith}
 use lib.ListN.{get_or}
+use Rattle.std.proofs.Common.{Option, Some, None}
 use Rattle.ranges.specs.Align.{PowerOfTwo}
 use Rattle.places.specs.Places.{Room, LowestIn, HighestIn, SearchUp, SearchDown}
-use Rattle.places.specs.declared.Fit.{Fit}
-use Rattle.places.specs.declared.Fit.TheVariants.{At, Nowhere}
 use Rattle.blocks.specs.Blocks.{blocks_of, size_at, bound_at, starts_at, tags_at, last_at, past_at, sizes, starts_of, tags_of, index, Within, Sound, Settled, Bounded, Ready}
 use Rattle.blocks.proofs.Parts.{starts_length, as_many, sizes_snoc}
 use Rattle.blocks.proofs.Flat.{all_starts, flat_start, flat_tag, flat_within, flat_next}
@@ -95,17 +94,17 @@ pub up_first : (m : List ℕ) (size align : ℕ) → NoneBelow m size align (siz
 unfolding sizes
 up_first m size align j a l r = omega arith
 
-module _ (m : List ℕ) (ready : Ready m) (b : ℕ) (h : b < blocks_of m) (more mask : ℕ) (p : PowerOfTwo (mask + 1)) (f : NoneBelow m (more + 1) (mask + 1) (sizes 0 b m)) {r : Fit} (l : Within (past_at b m) (starts_at b m) (tags_at b m) (bound_at b m) → SearchUp (starts_at b m) (tags_at b m) (last_at b m) more mask r) where
-  pub up_found : {a : ℕ} → r ≡ At a → LowestIn (starts_of m) (tags_of m) (get_or m 3 0) (more + 1) (mask + 1) a
+module _ (m : List ℕ) (ready : Ready m) (b : ℕ) (h : b < blocks_of m) (more mask : ℕ) (p : PowerOfTwo (mask + 1)) (f : NoneBelow m (more + 1) (mask + 1) (sizes 0 b m)) {r : Option ℕ} (l : Within (past_at b m) (starts_at b m) (tags_at b m) (bound_at b m) → SearchUp (starts_at b m) (tags_at b m) (last_at b m) more mask r) where
+  pub up_found : {a : ℕ} → r ≡ Some a → LowestIn (starts_of m) (tags_of m) (get_or m 3 0) (more + 1) (mask + 1) a
   unfolding SearchUp Bounded
   up_found {a = a} e =
-      let u : SearchUp (starts_at b m) (tags_at b m) (last_at b m) more mask (At a) = rw e at (l (ready.bounded b h)) in
+      let u : SearchUp (starts_at b m) (tags_at b m) (last_at b m) more mask (Some a) = rw e at (l (ready.bounded b h)) in
       found_up m ready b h (more + 1) (mask + 1) a f (u (as_many m ready.settled.sound b h) p)
 
-  pub up_next : r ≡ Nowhere → NoneBelow m (more + 1) (mask + 1) (sizes 0 (b + 1) m)
+  pub up_next : r ≡ None → NoneBelow m (more + 1) (mask + 1) (sizes 0 (b + 1) m)
   unfolding SearchUp Bounded
   up_next e =
-      let u : SearchUp (starts_at b m) (tags_at b m) (last_at b m) more mask Nowhere = rw e at (l (ready.bounded b h)) in
+      let u : SearchUp (starts_at b m) (tags_at b m) (last_at b m) more mask None = rw e at (l (ready.bounded b h)) in
       none_up m ready b h (more + 1) (mask + 1) f (u (as_many m ready.settled.sound b h) p)
 
 pub up_last : (m : List ℕ) → Ready m → (b : ℕ) → blocks_of m ≤ b → b ≤ blocks_of m → (more mask : ℕ) → NoneBelow m (more + 1) (mask + 1) (sizes 0 b m) → (j a : ℕ) → Room (starts_of m) (tags_of m) (get_or m 3 0) (more + 1) (mask + 1) j a → ⊥
@@ -125,17 +124,17 @@ under m b p h = omega arith
 above : (m : List ℕ) (b size align : ℕ) → 0 < b → NoneFrom m size align (sizes 0 b m) → NoneFrom m size align (sizes 0 (b - 1 + 1) m)
 above m b size align p f = let e : b - 1 + 1 ≡ b = omega arith in rw e f
 
-module _ (m : List ℕ) (ready : Ready m) (b : ℕ) (pos : 0 < b) (h : b ≤ blocks_of m) (more mask : ℕ) (p : PowerOfTwo (mask + 1)) (f : NoneFrom m (more + 1) (mask + 1) (sizes 0 b m)) {r : Fit} (l : Within (past_at (b - 1) m) (starts_at (b - 1) m) (tags_at (b - 1) m) (bound_at (b - 1) m) → SearchDown (starts_at (b - 1) m) (tags_at (b - 1) m) (last_at (b - 1) m) more mask r) where
-  pub down_found : {a : ℕ} → r ≡ At a → HighestIn (starts_of m) (tags_of m) (get_or m 3 0) (more + 1) (mask + 1) a
+module _ (m : List ℕ) (ready : Ready m) (b : ℕ) (pos : 0 < b) (h : b ≤ blocks_of m) (more mask : ℕ) (p : PowerOfTwo (mask + 1)) (f : NoneFrom m (more + 1) (mask + 1) (sizes 0 b m)) {r : Option ℕ} (l : Within (past_at (b - 1) m) (starts_at (b - 1) m) (tags_at (b - 1) m) (bound_at (b - 1) m) → SearchDown (starts_at (b - 1) m) (tags_at (b - 1) m) (last_at (b - 1) m) more mask r) where
+  pub down_found : {a : ℕ} → r ≡ Some a → HighestIn (starts_of m) (tags_of m) (get_or m 3 0) (more + 1) (mask + 1) a
   unfolding SearchDown Bounded
   down_found {a = a} e =
-      let u : SearchDown (starts_at (b - 1) m) (tags_at (b - 1) m) (last_at (b - 1) m) more mask (At a) = rw e at (l (ready.bounded (b - 1) (under m b pos h))) in
+      let u : SearchDown (starts_at (b - 1) m) (tags_at (b - 1) m) (last_at (b - 1) m) more mask (Some a) = rw e at (l (ready.bounded (b - 1) (under m b pos h))) in
       found_down m ready (b - 1) (under m b pos h) (more + 1) (mask + 1) a (above m b (more + 1) (mask + 1) pos f) (u (as_many m ready.settled.sound (b - 1) (under m b pos h)) p)
 
-  pub down_next : r ≡ Nowhere → NoneFrom m (more + 1) (mask + 1) (sizes 0 (b - 1) m)
+  pub down_next : r ≡ None → NoneFrom m (more + 1) (mask + 1) (sizes 0 (b - 1) m)
   unfolding SearchDown Bounded
   down_next e =
-      let u : SearchDown (starts_at (b - 1) m) (tags_at (b - 1) m) (last_at (b - 1) m) more mask Nowhere = rw e at (l (ready.bounded (b - 1) (under m b pos h))) in
+      let u : SearchDown (starts_at (b - 1) m) (tags_at (b - 1) m) (last_at (b - 1) m) more mask None = rw e at (l (ready.bounded (b - 1) (under m b pos h))) in
       none_down m ready (b - 1) (under m b pos h) (more + 1) (mask + 1) (above m b (more + 1) (mask + 1) pos f) (u (as_many m ready.settled.sound (b - 1) (under m b pos h)) p)
 
 pub down_last : (m : List ℕ) (b : ℕ) → b ≡ 0 → (more mask : ℕ) → NoneFrom m (more + 1) (mask + 1) (sizes 0 b m) → (j a : ℕ) → Room (starts_of m) (tags_of m) (get_or m 3 0) (more + 1) (mask + 1) j a → ⊥

@@ -3,110 +3,87 @@
 // an id that was granted once leaves a trace (it is no longer "never allocated"), a range that is given back leaves none.
 #![tactic(auto)]
 
-ghost use Rattle.both.specs.Both.{Asks, Returns, Pairs, Triples};
+ghost use Rattle.std.specs.Prelude.{◌≡◌};
+ghost use Rattle.both.specs.Both.{Asks, Returns, Pairs, Triples, among_three};
 
-use addresses::Answer;
 use ranges::{Constraint, Error, RangeInclusive};
 
-// What one pool answers.
-#[derive(Clone, Copy)]
-enum Got {
-    Granted(RangeInclusive),
-    Refused(Error),
-}
-
-// A range of each pool, or which request was refused and why.
-#[derive(Clone, Copy)]
-pub enum Pair {
-    Both {
-        first: RangeInclusive,
-        second: RangeInclusive,
-    },
+// Which of two requests was refused, and why.
+#[derive(Clone, Copy, PartialEq, Eq)]
+pub enum PairError {
     First(Error),
     Second(Error),
 }
 
-// A range of each pool and an id, or which request was refused and why.
-#[derive(Clone, Copy)]
-pub enum Triple {
-    All {
-        first: RangeInclusive,
-        second: RangeInclusive,
-        id: u32,
-    },
+// Which of three requests was refused, and why.
+#[derive(Clone, Copy, PartialEq, Eq)]
+pub enum TripleError {
     First(Error),
     Second(Error),
     Third(Error),
 }
 
-// Asks one pool. `allocate` never answers that something is free again where the block holds a pool.
-fn ask(mem: &mut [u64], q: Constraint) -> Got
+impl From<PairError> for TripleError {
+    ghost from_gives = { λ e t. t ≡ among_three e };
+
+    fn from(e: PairError) -> TripleError {
+        match e {
+            PairError::First(e) => TripleError::First(e),
+            PairError::Second(e) => TripleError::Second(e),
+        }
+    }
+}
+
+// Asks one pool.
+fn ask(mem: &mut [u64], q: Constraint) -> Result<RangeInclusive, Error>
     ensures { Asks mem.old q result mem.new }
 {
-    let policy = q.policy;
-    let answer = addresses::allocate(mem, q.size, q.align, policy);
-    match answer {
-        Answer::Granted(r) => Got::Granted(r),
-        Answer::Freed(r) => Got::Granted(r),
-        Answer::Refused(e) => Got::Refused(e),
-    }
+    addresses::allocate(mem, q.size, q.align, q.policy)
 }
 
 // Gives a range back.
 fn give_back(mem: &mut [u64], r: RangeInclusive)
     ensures { Returns mem.old r mem.new }
 {
-    addresses::free(mem, r.start, r.end);
+    let _ = addresses::free(mem, r.start, r.end);
 }
 
 // A range of each of two pools, or of neither: q of the first, then w of the second.
-pub fn two(a: &mut [u64], q: Constraint, b: &mut [u64], w: Constraint) -> Pair
+pub fn two(
+    a: &mut [u64],
+    q: Constraint,
+    b: &mut [u64],
+    w: Constraint,
+) -> Result<(RangeInclusive, RangeInclusive), PairError>
     ensures { Pairs a.old q b.old w result a.new b.new }
 {
-    let first = ask(a, q);
-    match first {
-        Got::Refused(e) => Pair::First(e),
-        Got::Granted(r) => {
-            let second = ask(b, w);
-            match second {
-                Got::Granted(s) => Pair::Both {
-                    first: r,
-                    second: s,
-                },
-                Got::Refused(e) => {
-                    give_back(a, r);
-                    Pair::Second(e)
-                }
-            }
+    let r = ask(a, q).map_err(PairError::First)?;
+    match ask(b, w) {
+        Ok(s) => Ok((r, s)),
+        Err(e) => {
+            give_back(a, r);
+            Err(PairError::Second(e))
         }
     }
 }
 
 // A range of each of two pools and the lowest free id, or nothing of the three.
-pub fn three(a: &mut [u64], q: Constraint, b: &mut [u64], w: Constraint, c: &mut [u64]) -> Triple
+pub fn three(
+    a: &mut [u64],
+    q: Constraint,
+    b: &mut [u64],
+    w: Constraint,
+    c: &mut [u64],
+) -> Result<(RangeInclusive, RangeInclusive, u32), TripleError>
     ensures { Triples a.old q b.old w c.old result a.new b.new c.new }
 {
-    let ranges = two(a, q, b, w);
-    match ranges {
-        Pair::First(e) => Triple::First(e),
-        Pair::Second(e) => Triple::Second(e),
-        Pair::Both {
-            first: x,
-            second: y,
-        } => {
-            let answer = ids::allocate(c);
-            match answer {
-                ids::Answer::Id(i) => Triple::All {
-                    first: x,
-                    second: y,
-                    id: i,
-                },
-                ids::Answer::Refused(e) => {
-                    give_back(b, y);
-                    give_back(a, x);
-                    Triple::Third(e)
-                }
-            }
+    let (x, y) = two(a, q, b, w)?;
+    match ids::allocate(c) {
+        Ok(i) => Ok((x, y, i)),
+        Err(e) => {
+            give_back(b, y);
+            give_back(a, x);
+            Err(TripleError::Third(e))
         }
     }
 }

@@ -1,7 +1,5 @@
 -- Where an address lies among starts.
-use Rattle.std.specs.Prelude.{ℕ, ◌+◌, ◌≤◌, ◌<◌, ◌≡◌, List, length, get_or}
-use Rattle.cells.specs.declared.Spot.{Spot}
-use Rattle.cells.specs.declared.Spot.TheVariants.{At, Before}
+use Rattle.std.specs.Prelude.{ℕ, ◌+◌, ◌≤◌, ◌<◌, ◌≡◌, Option, Some, None, List, length, get_or}
 
 -- what one step of a search answers
 pub record Stepped (x a lo hi r : ℕ) : Type 0 where
@@ -21,6 +19,6 @@ pub record Located (ss : List ℕ) (a r : ℕ) : Type 0 where
   pub to : r + 1 < length ss → a < get_or ss (r + 1) 0
 
 -- what `locate` answers: such an index; or the first start, if there is one, is above a
-unfoldable pub Locates : List ℕ → ℕ → Spot → Type 0
-Locates ss a (At r) = Located ss a r
-Locates ss a Before = 0 < length ss → a < get_or ss 0 0
+unfoldable pub Locates : List ℕ → ℕ → Option ℕ → Type 0
+Locates ss a (Some r) = Located ss a r
+Locates ss a None = 0 < length ss → a < get_or ss 0 0

@@ -1,33 +1,32 @@
 -- A line as a kind and nine words, as C reads it.
-use Rattle.std.specs.Prelude.{◌≡◌, List, [], ◌∷◌, ℕ}
+use Rattle.std.specs.Prelude.{◌≡◌, List, [], ◌∷◌, ℕ, Option, Some, None, Result, Ok, Err}
 use Rattle.text.specs.Stored.{Puts}
-use Rattle.text.specs.declared.Placed.{Placed}
 use Rattle.ranges.specs.Reasons.{number_of}
 use Rattle.ranges.specs.declared.AllocPolicy.{AllocPolicy}
 use Rattle.claims.specs.declared.Claim.{Claim}
 use Rattle.fields.specs.declared.Flaw.{Flaw}
-use Rattle.lines.specs.declared.Limit.{Limit}
+use Rattle.fields.specs.declared.Wrong.{Wrong}
 use Rattle.lines.specs.declared.Line.{Line}
 use Rattle.fields.specs.declared.Name.{Name}
-use Rattle.command.specs.declared.Three.{Three}
+use Rattle.told.specs.declared.Case.{Case}
 
--- three numbers
-abbrev pub three : ℕ → ℕ → ℕ → Three
+-- a number that names a case, and two numbers that it holds
+abbrev pub three : ℕ → ℕ → ℕ → Case
 three k a b = record { kind = k; a = a; b = b }
 
 -- a limit: 0, or 1 and the number
-abbrev pub limit_of : Limit → Three
-limit_of Limit.Unsaid = three 0 0 0
-limit_of (Limit.Said n) = three 1 n 0
+abbrev pub limit_of : Option ℕ → Case
+limit_of None = three 0 0 0
+limit_of (Some n) = three 1 n 0
 
 -- a policy: 0 first, 1 last, 2 exact and the address
-abbrev pub policy_of : AllocPolicy → Three
+abbrev pub policy_of : AllocPolicy → Case
 policy_of AllocPolicy.FirstMatch = three 0 0 0
 policy_of AllocPolicy.LastMatch = three 1 0 0
 policy_of (AllocPolicy.ExactMatch x) = three 2 x 0
 
 -- a claim: 0 none, 1 a window and its ends, 2 an id, 3 freed, 4 refused and the reason's number, 5 yes, 6 no
-abbrev pub claim_of : Claim → Three
+abbrev pub claim_of : Claim → Case
 claim_of Claim.Unsaid = three 0 0 0
 claim_of (Claim.Window x y) = three 1 x y
 claim_of (Claim.Id n) = three 2 n 0
@@ -53,42 +52,42 @@ flaw_of Flaw.LeftOver = 12
 flaw_of Flaw.CountExpected = 13
 
 -- the number of a line's kind
-abbrev pub kind_of : Line → ℕ
-kind_of Line.Blank = 0
-kind_of (Line.Pool n b s l) = 1
-kind_of (Line.Ids n l h) = 2
-kind_of (Line.Allocate n s a p c) = 3
-kind_of (Line.AllocateId n c) = 4
-kind_of (Line.Free n s e c) = 5
-kind_of (Line.FreeId n i c) = 6
-kind_of (Line.Show n) = 7
-kind_of (Line.Wrong w i) = 8
-kind_of (Line.InUse n i c) = 9
-kind_of (Line.Together k) = 10
+abbrev pub kind_of : Result Line Wrong → ℕ
+kind_of (Ok Line.Blank) = 0
+kind_of (Ok (Line.Pool n b s l)) = 1
+kind_of (Ok (Line.Ids n l h)) = 2
+kind_of (Ok (Line.Allocate n s a p c)) = 3
+kind_of (Ok (Line.AllocateId n c)) = 4
+kind_of (Ok (Line.Free n s e c)) = 5
+kind_of (Ok (Line.FreeId n i c)) = 6
+kind_of (Ok (Line.Show n)) = 7
+kind_of (Err w) = 8
+kind_of (Ok (Line.InUse n i c)) = 9
+kind_of (Ok (Line.Together k)) = 10
 
 -- nine words: the name's place, four numbers and the claim
-abbrev pub nine : Name → ℕ → ℕ → Three → Three → List ℕ
+abbrev pub nine : Name → ℕ → ℕ → Case → Case → List ℕ
 nine n a b p c = n.start ∷ n.len ∷ a ∷ b ∷ p.kind ∷ p.a ∷ c.kind ∷ c.a ∷ c.b ∷ []
 
 -- what a line says, in words
-abbrev pub words_of : Line → List ℕ
-words_of Line.Blank = nine (record { start = 0; len = 0 }) 0 0 (three 0 0 0) (three 0 0 0)
-words_of (Line.Pool n b s l) = nine n b s (limit_of l) (three 0 0 0)
-words_of (Line.Ids n l h) = nine n l h (three 0 0 0) (three 0 0 0)
-words_of (Line.Allocate n s a p c) = nine n s a (policy_of p) (claim_of c)
-words_of (Line.AllocateId n c) = nine n 0 0 (three 0 0 0) (claim_of c)
-words_of (Line.Free n s e c) = nine n s e (three 0 0 0) (claim_of c)
-words_of (Line.FreeId n i c) = nine n i 0 (three 0 0 0) (claim_of c)
-words_of (Line.Show n) = nine n 0 0 (three 0 0 0) (three 0 0 0)
-words_of (Line.Wrong w i) = nine (record { start = 0; len = 0 }) (flaw_of w) i (three 0 0 0) (three 0 0 0)
-words_of (Line.InUse n i c) = nine n i 0 (three 0 0 0) (claim_of c)
-words_of (Line.Together k) = nine (record { start = 0; len = 0 }) k 0 (three 0 0 0) (three 0 0 0)
+abbrev pub words_of : Result Line Wrong → List ℕ
+words_of (Ok Line.Blank) = nine (record { start = 0; len = 0 }) 0 0 (three 0 0 0) (three 0 0 0)
+words_of (Ok (Line.Pool n b s l)) = nine n b s (limit_of l) (three 0 0 0)
+words_of (Ok (Line.Ids n l h)) = nine n l h (three 0 0 0) (three 0 0 0)
+words_of (Ok (Line.Allocate n s a p c)) = nine n s a (policy_of p) (claim_of c)
+words_of (Ok (Line.AllocateId n c)) = nine n 0 0 (three 0 0 0) (claim_of c)
+words_of (Ok (Line.Free n s e c)) = nine n s e (three 0 0 0) (claim_of c)
+words_of (Ok (Line.FreeId n i c)) = nine n i 0 (three 0 0 0) (claim_of c)
+words_of (Ok (Line.Show n)) = nine n 0 0 (three 0 0 0) (three 0 0 0)
+words_of (Err w) = nine (record { start = 0; len = 0 }) (flaw_of w.why) w.at (three 0 0 0) (three 0 0 0)
+words_of (Ok (Line.InUse n i c)) = nine n i 0 (three 0 0 0) (claim_of c)
+words_of (Ok (Line.Together k)) = nine (record { start = 0; len = 0 }) k 0 (three 0 0 0) (three 0 0 0)
 
 -- the place behind a text that was put at the front, 0 for none
-abbrev pub place_of : Placed → ℕ
-place_of (Placed.Next i) = i
-place_of Placed.NoRoom = 0
+abbrev pub place_of : Option ℕ → ℕ
+place_of (Some i) = i
+place_of None = 0
 
 -- a text is put at the front of the old bytes, or does not fit
 abbrev pub Placing : List ℕ → List ℕ → List ℕ → ℕ → Type 0
-Placing t old new r = (p : Placed) × Puts t 0 old new p × (r ≡ place_of p)
+Placing t old new r = (p : Option ℕ) × Puts t 0 old new p × (r ≡ place_of p)

@@ -1,28 +1,23 @@
 // The lines of files as a kind and words, beside those of the script's other lines; and the number of a flaw.
 ghost use Rattle.std.specs.Prelude.{◌≡◌};
 ghost use Rattle.command.specs.Encoded.{flaw_of};
-ghost use Rattle.command.specs.Files.{way_kind, join_flaw, kind_with, words_with};
+ghost use Rattle.command.specs.Files.{way_kind, join_flaw, flawed, kind_with, words_with};
 
 use fields::Flaw;
-use keeping::{Kept, Way};
+use keeping::{Files, Unkept, Way};
 
 // The kind of a line, where `other` is the kind that it has if it says nothing of files.
-pub fn kind(kept: Kept, other: u32) -> u32
+pub fn kind(kept: Option<Result<Files, Unkept>>, other: u32) -> u32
     ensures { result ≡ kind_with kept other }
 {
     match kept {
-        Kept::Another => other,
-        Kept::Files {
-            way,
-            name: _,
-            file: _,
-        } => way_kind(way),
-        Kept::Wrong { why: _, at: _ } => 8,
-        Kept::Unjoined { way: _, at: _ } => 8,
-        Kept::Unfiled { at: _ } => 8,
+        None => other,
+        Some(Ok(files)) => way_kind(files.way),
+        Some(Err(_)) => 8,
     }
 }
 
+// The number by which C knows the kind.
 fn way_kind(way: Way) -> u32
     ensures { result ≡ way_kind way }
 {
@@ -33,12 +28,12 @@ fn way_kind(way: Way) -> u32
 }
 
 // The words of a line, where `other` are those that it has if it says nothing of files.
-pub fn words(kept: Kept, other: [u64; 9]) -> [u64; 9]
+pub fn words(kept: Option<Result<Files, Unkept>>, other: [u64; 9]) -> [u64; 9]
     ensures { result ≡ words_with kept other }
 {
     match kept {
-        Kept::Another => other,
-        Kept::Files { way: _, name, file } => [
+        None => other,
+        Some(Ok(Files { name, file, .. })) => [
             name.start as u64,
             name.len as u64,
             file.start as u64,
@@ -49,12 +44,20 @@ pub fn words(kept: Kept, other: [u64; 9]) -> [u64; 9]
             0,
             0,
         ],
-        Kept::Wrong { why, at } => [0, 0, flaw_number(why), at as u64, 0, 0, 0, 0, 0],
-        Kept::Unjoined { way, at } => [0, 0, join_flaw(way), at as u64, 0, 0, 0, 0, 0],
-        Kept::Unfiled { at } => [0, 0, 16, at as u64, 0, 0, 0, 0, 0],
+        Some(Err(Unkept::Wrong(wrong))) => flawed(flaw_number(wrong.why), wrong.at),
+        Some(Err(Unkept::Unjoined { way, at })) => flawed(join_flaw(way), at),
+        Some(Err(Unkept::Unfiled { at })) => flawed(16, at),
     }
 }
 
+// A flaw and its place.
+pub fn flawed(flaw: u64, at: usize) -> [u64; 9]
+    ensures { result ≡ flawed flaw at }
+{
+    [0, 0, flaw, at as u64, 0, 0, 0, 0, 0]
+}
+
+// The number by which C knows a line without `to` or `from`.
 fn join_flaw(way: Way) -> u64
     ensures { result ≡ join_flaw way }
 {
@@ -64,6 +67,7 @@ fn join_flaw(way: Way) -> u64
     }
 }
 
+// The number by which C knows a flaw.
 pub fn flaw_number(why: Flaw) -> u64
     ensures { result ≡ flaw_of why }
 {

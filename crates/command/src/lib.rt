@@ -4,30 +4,22 @@
 #![tactic(auto)]
 
 ghost use Rattle.std.specs.Prelude.{◌≡◌};
-ghost use Rattle.text.specs.Stored.{Puts};
 ghost use Rattle.script.specs.Grammar.{line_of};
 ghost use Rattle.fields.specs.Answers.{window_text};
 ghost use Rattle.picture.specs.Bar.{Cleared, Painted};
-ghost use Rattle.command.specs.Encoded.{kind_of, words_of, place_of, Placing};
+ghost use Rattle.command.specs.Encoded.{kind_of, words_of, Placing};
 ghost use Rattle.command.specs.Lines.{PoolLine, IdLine, UseLine};
-ghost use Rattle.command.specs.Encoded.{claim_of, limit_of, policy_of};
+ghost use Rattle.command.specs.Encoded.{claim_of, limit_of, policy_of, three, nine};
 ghost use Rattle.command.specs.Files.{kind_with, words_with};
 ghost use Rattle.keeping.specs.Keeping.{kept_of};
 
 mod files;
 
 use claims::Claim;
-use lines::{Limit, Line};
+use fields::{Name, Wrong};
+use lines::Line;
 use ranges::AllocPolicy;
-use text::Placed;
-
-// A number that names a case, and two numbers that it holds.
-#[derive(Clone, Copy)]
-pub struct Three {
-    pub kind: u64,
-    pub a: u64,
-    pub b: u64,
-}
+use told::Case;
 
 // Reads a line: answers its kind, and `words` becomes what it says. A line of files is one first; any other is what the script's grammar says.
 #[unsafe(no_mangle)]
@@ -36,259 +28,127 @@ pub extern "C" fn rk_line(s: &[u8], words: &mut [u64; 9]) -> u32
 {
     let kept = keeping::read(s);
     let line = script::parse(s);
-    let kind = kind_of(line);
-    let said = words_of(line);
-    *words = files::words(kept, said);
-    files::kind(kept, kind)
+    *words = files::words(kept, words_of(line));
+    files::kind(kept, kind_of(line))
 }
 
-fn kind_of(line: Line) -> u32
+// The numbers by which C knows the kinds of lines.
+fn kind_of(line: Result<Line, Wrong>) -> u32
     ensures { result ≡ kind_of line }
 {
     match line {
-        Line::Blank => 0,
-        Line::Pool {
-            name: _,
-            base: _,
-            size: _,
-            limit: _,
-        } => 1,
-        Line::Ids {
-            name: _,
-            low: _,
-            high: _,
-        } => 2,
-        Line::Allocate {
-            name: _,
-            size: _,
-            align: _,
-            policy: _,
-            claim: _,
-        } => 3,
-        Line::AllocateId { name: _, claim: _ } => 4,
-        Line::Free {
-            name: _,
-            start: _,
-            end: _,
-            claim: _,
-        } => 5,
-        Line::FreeId {
-            name: _,
-            id: _,
-            claim: _,
-        } => 6,
-        Line::Show { name: _ } => 7,
-        Line::Wrong { why: _, at: _ } => 8,
-        Line::InUse {
-            name: _,
-            id: _,
-            claim: _,
-        } => 9,
-        Line::Together { count: _ } => 10,
+        Ok(Line::Blank) => 0,
+        Ok(Line::Pool { .. }) => 1,
+        Ok(Line::Ids { .. }) => 2,
+        Ok(Line::Allocate { .. }) => 3,
+        Ok(Line::AllocateId { .. }) => 4,
+        Ok(Line::Free { .. }) => 5,
+        Ok(Line::FreeId { .. }) => 6,
+        Ok(Line::Show { .. }) => 7,
+        Err(_) => 8,
+        Ok(Line::InUse { .. }) => 9,
+        Ok(Line::Together { .. }) => 10,
     }
 }
 
-fn words_of(line: Line) -> [u64; 9]
+fn words_of(line: Result<Line, Wrong>) -> [u64; 9]
     ensures { result ≡ words_of line }
 {
+    let line = match line {
+        Ok(line) => line,
+        Err(wrong) => return files::flawed(files::flaw_number(wrong.why), wrong.at),
+    };
+    let nowhere = Name { start: 0, len: 0 };
+    let nothing = three(0, 0, 0);
     match line {
-        Line::Blank => [0, 0, 0, 0, 0, 0, 0, 0, 0],
+        Line::Blank => nine(nowhere, 0, 0, nothing, nothing),
         Line::Pool {
             name,
             base,
             size,
             limit,
-        } => {
-            let l = limit_words(limit);
-            [
-                name.start as u64,
-                name.len as u64,
-                base,
-                size,
-                l.kind,
-                l.a,
-                0,
-                0,
-                0,
-            ]
-        }
-        Line::Ids { name, low, high } => [
-            name.start as u64,
-            name.len as u64,
-            low as u64,
-            high as u64,
-            0,
-            0,
-            0,
-            0,
-            0,
-        ],
+        } => nine(name, base, size, limit_words(limit), nothing),
+        Line::Ids { name, low, high } => nine(name, low as u64, high as u64, nothing, nothing),
         Line::Allocate {
             name,
             size,
             align,
             policy,
             claim,
-        } => {
-            let p = policy_words(policy);
-            let c = claim_words(claim);
-            [
-                name.start as u64,
-                name.len as u64,
-                size,
-                align,
-                p.kind,
-                p.a,
-                c.kind,
-                c.a,
-                c.b,
-            ]
-        }
-        Line::AllocateId { name, claim } => {
-            let c = claim_words(claim);
-            [
-                name.start as u64,
-                name.len as u64,
-                0,
-                0,
-                0,
-                0,
-                c.kind,
-                c.a,
-                c.b,
-            ]
-        }
+        } => nine(name, size, align, policy_words(policy), claim_words(claim)),
+        Line::AllocateId { name, claim } => nine(name, 0, 0, nothing, claim_words(claim)),
         Line::Free {
             name,
             start,
             end,
             claim,
-        } => {
-            let c = claim_words(claim);
-            [
-                name.start as u64,
-                name.len as u64,
-                start,
-                end,
-                0,
-                0,
-                c.kind,
-                c.a,
-                c.b,
-            ]
-        }
-        Line::FreeId { name, id, claim } => {
-            let c = claim_words(claim);
-            [
-                name.start as u64,
-                name.len as u64,
-                id as u64,
-                0,
-                0,
-                0,
-                c.kind,
-                c.a,
-                c.b,
-            ]
-        }
-        Line::Show { name } => [name.start as u64, name.len as u64, 0, 0, 0, 0, 0, 0, 0],
-        Line::Wrong { why, at } => [0, 0, files::flaw_number(why), at as u64, 0, 0, 0, 0, 0],
-        Line::InUse { name, id, claim } => {
-            let c = claim_words(claim);
-            [
-                name.start as u64,
-                name.len as u64,
-                id as u64,
-                0,
-                0,
-                0,
-                c.kind,
-                c.a,
-                c.b,
-            ]
-        }
-        Line::Together { count } => [0, 0, count, 0, 0, 0, 0, 0, 0],
+        } => nine(name, start, end, nothing, claim_words(claim)),
+        Line::FreeId { name, id, claim } | Line::InUse { name, id, claim } => nine(
+            name,
+            id as u64,
+            0,
+            nothing,
+            claim_words(claim),
+        ),
+        Line::Show { name } => nine(name, 0, 0, nothing, nothing),
+        Line::Together { count } => nine(nowhere, count, 0, nothing, nothing),
     }
 }
 
-fn limit_words(limit: Limit) -> Three
+// Nine words: the name's place, two numbers, a policy or a limit, and a claim.
+fn nine(name: Name, a: u64, b: u64, p: Case, c: Case) -> [u64; 9]
+    ensures { result ≡ nine name a b p c }
+{
+    [
+        name.start as u64,
+        name.len as u64,
+        a,
+        b,
+        p.kind,
+        p.a,
+        c.kind,
+        c.a,
+        c.b,
+    ]
+}
+
+// A case, by the number that C knows, with two numbers.
+fn three(kind: u64, a: u64, b: u64) -> Case
+    ensures { result ≡ three kind a b }
+{
+    Case { kind, a, b }
+}
+
+fn limit_words(limit: Option<u64>) -> Case
     ensures { result ≡ limit_of limit }
 {
     match limit {
-        Limit::Unsaid => Three {
-            kind: 0,
-            a: 0,
-            b: 0,
-        },
-        Limit::Said(n) => Three {
-            kind: 1,
-            a: n,
-            b: 0,
-        },
+        None => three(0, 0, 0),
+        Some(n) => three(1, n, 0),
     }
 }
 
-fn policy_words(policy: AllocPolicy) -> Three
+fn policy_words(policy: AllocPolicy) -> Case
     ensures { result ≡ policy_of policy }
 {
     match policy {
-        AllocPolicy::FirstMatch => Three {
-            kind: 0,
-            a: 0,
-            b: 0,
-        },
-        AllocPolicy::LastMatch => Three {
-            kind: 1,
-            a: 0,
-            b: 0,
-        },
-        AllocPolicy::ExactMatch(x) => Three {
-            kind: 2,
-            a: x,
-            b: 0,
-        },
+        AllocPolicy::FirstMatch => three(0, 0, 0),
+        AllocPolicy::LastMatch => three(1, 0, 0),
+        AllocPolicy::ExactMatch(x) => three(2, x, 0),
     }
 }
 
-fn claim_words(claim: Claim) -> Three
+fn claim_words(claim: Claim) -> Case
     ensures { result ≡ claim_of claim }
 {
     match claim {
-        Claim::Unsaid => Three {
-            kind: 0,
-            a: 0,
-            b: 0,
-        },
-        Claim::Window(x, y) => Three {
-            kind: 1,
-            a: x,
-            b: y,
-        },
-        Claim::Id(n) => Three {
-            kind: 2,
-            a: n as u64,
-            b: 0,
-        },
-        Claim::Freed => Three {
-            kind: 3,
-            a: 0,
-            b: 0,
-        },
-        Claim::Refused(e) => Three {
-            kind: 4,
-            a: e.number() as u64,
-            b: 0,
-        },
-        Claim::Yes => Three {
-            kind: 5,
-            a: 0,
-            b: 0,
-        },
-        Claim::No => Three {
-            kind: 6,
-            a: 0,
-            b: 0,
-        },
+        Claim::Unsaid => three(0, 0, 0),
+        Claim::Window(x, y) => three(1, x, y),
+        Claim::Id(n) => three(2, n as u64, 0),
+        Claim::Freed => three(3, 0, 0),
+        Claim::Refused(e) => three(4, e.number() as u64, 0),
+        Claim::Yes => three(5, 0, 0),
+        Claim::No => three(6, 0, 0),
     }
 }
 
@@ -297,18 +157,16 @@ fn claim_words(claim: Claim) -> Three
 pub extern "C" fn rk_pool_line(s: &[u8], mem: &mut [u64], told: &mut [u64; 5])
     ensures { PoolLine s.now mem.old mem.new told.new }
 {
-    let wanted = script::parse(s);
-    let outcome = replay::on_pool(mem, wanted);
+    let outcome = replay::on_pool(mem, script::parse(s));
     *told = told::pool(outcome);
 }
 
-// The same on the interval of ids in `mem`.
+// The same on the interval of ids in `mem`; a function of its own, since C calls each by its name.
 #[unsafe(no_mangle)]
 pub extern "C" fn rk_id_line(s: &[u8], mem: &mut [u64], told: &mut [u64; 5])
     ensures { IdLine s.now mem.old mem.new told.new }
 {
-    let wanted = script::parse(s);
-    let outcome = replay::on_ids(mem, wanted);
+    let outcome = replay::on_ids(mem, script::parse(s));
     *told = told::interval(outcome);
 }
 
@@ -317,21 +175,16 @@ pub extern "C" fn rk_id_line(s: &[u8], mem: &mut [u64], told: &mut [u64; 5])
 pub extern "C" fn rk_use_line(s: &[u8], mem: &[u64], told: &mut [u64; 5])
     ensures { UseLine s.now mem.now told.new }
 {
-    let wanted = script::parse(s);
-    let outcome = asked::in_use(mem, wanted);
+    let outcome = asked::in_use(mem, script::parse(s));
     *told = told::used(outcome);
 }
 
-// Puts a window into `out` from its first byte on: the number of bytes, or 0 where it does not fit.
+// Puts a window into `out` from its first byte on: the number of bytes, or 0 where it does not fit, since C has no Option.
 #[unsafe(no_mangle)]
 pub extern "C" fn rk_window(out: &mut [u8], low: u64, high: u64) -> usize
     ensures { Placing (window_text low high) out.old out.new result }
 {
-    let placed = fields::put_window(out, 0, low, high);
-    match placed {
-        Placed::Next(i) => i,
-        Placed::NoRoom => 0,
-    }
+    fields::put_window(out, 0, low, high).unwrap_or(0)
 }
 
 // Clears the bar of a picture.

@@ -3,16 +3,13 @@
 --     untouched      so a block of which nothing is asked keeps its words, whatever is done to the other
 --     copy_alike     a copy with the source's limit gives to the same calls the same answers, whatever is done to the other in between
 -- Assumes nothing.
-use Rattle.std.proofs.Common.{◌≡◌, ℕ, List, [], ◌∷◌, sym, refl, subst}
-use mathlib.Core.List.{Memᴰ}
-use Rattle.ranges.specs.declared.RangeInclusive.{RangeInclusive}
+use Rattle.std.proofs.Common.{◌≡◌, ℕ, List, [], ◌∷◌, sym, refl, subst, Ok}
 use Rattle.addresses.specs.declared.Answer.{Answer}
 use Rattle.addresses.specs.Operations.{Pool}
 use Rattle.addresses.specs.Runs.{Operation}
 use Rattle.addresses.specs.Held.{Holds}
 use Rattle.addresses.specs.Contract.{Calls}
 use Rattle.addresses.proofs.CallLaws.{Alike, calls_alike}
-use Rattle.copied.specs.declared.Copied.TheVariants.{Done}
 use Rattle.copied.specs.Copy.{limited, Copies}
 use Rattle.copied.specs.Two.{Event, One, Other, Happen, asked, answered, asked_other, answered_other}
 
@@ -39,7 +36,7 @@ untouched_other m n m' n' es h e = go (answered_other es) (subst (λ (os : List 
     go [] c = c
     go (x ∷ xs) c = absurd c
 
-pub copy_alike : (m n k m' k' : List ℕ) (p : Pool) (es : List Event) → Holds m p → Copies m p.limit Done n k → Happen m k es m' k' → asked es ≡ asked_other es → answered es ≡ answered_other es
+pub copy_alike : (m n k m' k' : List ℕ) (p : Pool) (es : List Event) → Holds m p → Copies m p.limit (Ok tt) n k → Happen m k es m' k' → asked es ≡ asked_other es → answered es ≡ answered_other es
 unfolding Copies
 copy_alike m n k m' k' p es h c w e =
     let a = apart m k m' k' es w in

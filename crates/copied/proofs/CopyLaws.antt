@@ -3,26 +3,25 @@
 --     filled_step      one range more
 --     filled_end       after all of them the copy holds the source's pool
 -- Assumes nothing.
-use Rattle.std.proofs.Common.{◌≡◌, ℕ, suc, ◌+◌, ◌-◌, ◌%◌, ◌^◌, ◌<◌, ◌≤◌, ◌⊎◌, List, [], ◌∷◌, ◌++◌, length, sym, refl, ap, ◌∙◌, subst, inl, inr, ⊎_elim, append_assoc, append-nil, mod-eq_of_lt, arith, length-append}
+use Rattle.std.proofs.Common.{◌≡◌, ℕ, suc, ◌+◌, ◌-◌, ◌%◌, ◌^◌, ◌<◌, ◌≤◌, ◌⊎◌, List, [], ◌∷◌, ◌++◌, length, sym, refl, ap, ◌∙◌, subst, inl, inr, append_assoc, append-nil, mod-eq_of_lt, arith, length-append}
 use native.Mathlib.Decide.{dec_le}
 use Rattle.ranges.specs.declared.AllocPolicy.TheVariants.{ExactMatch}
 use Rattle.ranges.specs.declared.RangeInclusive.{RangeInclusive}
 use Rattle.table.specs.Row.{Tile, past, Covers}
 use Rattle.table.specs.Tiles.{Has}
-use Rattle.addresses.specs.declared.Answer.{Answer}
 use Rattle.addresses.specs.Meaning.{Ordered, gap, row_from, row_of}
 use Rattle.addresses.specs.Operations.{Pool}
 use Rattle.addresses.specs.Runs.{Valid}
 use Rattle.addresses.specs.Held.{Holds}
 use Rattle.addresses.specs.Contract.{Performs, asking}
 use Rattle.addresses.proofs.Room.{ordered_le}
-use Rattle.addresses.proofs.Moves.{free, held, gap_some, gap_none, past_row}
+use Rattle.addresses.proofs.Moves.{held, gap_some, gap_none, past_row}
 use Rattle.addresses.proofs.RowLaws.{Behind, covers_row}
 use Rattle.addresses.proofs.StepLaws.{has_in}
 use Rattle.addresses.proofs.WalkLaws.{Next, walk_step}
 use Rattle.addresses.proofs.ReachLaws.{ask}
 use Rattle.addresses.proofs.RebuildLaws.{having, Roomy, rebuild_step}
-use Rattle.copied.specs.Steps.{Placed, Carried, Took, Carries}
+use Rattle.copied.specs.Steps.{Placed, Carried, Carries}
 
 -- ---- the first tile of a row
 

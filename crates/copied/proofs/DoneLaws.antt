@@ -4,83 +4,74 @@
 --     copy_kept                           after any refusal the block is as it was
 --     copy_done                           the block holds the source's pool
 -- Assumes nothing.
-use Rattle.std.proofs.Common.{◌≡◌, ℕ, ◌+◌, ◌<◌, ◌≤◌, ◌⊎◌, List, [], length, sym, refl, ◌∙◌, subst, inl, inr, ⊎_elim, arith}
+use Rattle.std.proofs.Common.{◌≡◌, ℕ, ◌<◌, ◌≤◌, List, [], length, refl, subst, ⊎_elim, arith, Some, None, Ok, Err}
 use Rattle.ranges.specs.declared.Error.{Error}
 use Rattle.ranges.specs.declared.Error.TheVariants.{Overflow, OutOfRange, AlreadyReleased, NeverAllocated, ResourceNotAvailable, InvalidRange, InvalidAlignment, UnalignedAddress, Underflow, InvalidSize, NoRoom, InvalidPolicy, NoState}
 use Rattle.table.specs.Held.{words_for}
 use Rattle.table.specs.Contract as table
-use Rattle.addresses.specs.declared.Setup.{Setup}
-use Rattle.addresses.specs.declared.Setup.TheVariants.{Ready, Unfit}
 use Rattle.addresses.specs.Operations.{Pool, Within, Lendable, fresh, Makes}
 use Rattle.addresses.specs.Held.{table_of, Holds}
 use Rattle.addresses.specs.Contract.{Starts}
-use Rattle.addresses.proofs.PoolLaws.{make, makes_only}
-use Rattle.copied.specs.declared.Copied.TheVariants.{Done, Refused}
+use Rattle.addresses.proofs.PoolLaws.{makes_only}
 use Rattle.copied.specs.declared.Extent.{Extent}
-use Rattle.copied.specs.declared.Extent.TheVariants as extent
-use Rattle.copied.specs.Copy.{limited, Suffices, Copies}
-use Rattle.copied.specs.Steps.{empty, Fills, Measured, Measures}
+use Rattle.copied.specs.Copy.{Copies}
+use Rattle.copied.specs.Steps.{Fills, Measures}
 use Rattle.copied.proofs.CarryLaws.{row_some}
 
-pub copy_none : (m n : List ℕ) (limit : ℕ) (x : Extent) → Measures m x → x ≡ extent.Missing → Copies m limit (Refused NoState) n n
+pub copy_none : (m n : List ℕ) (limit : ℕ) → Measures m None → Copies m limit (Err NoState) n n
 unfolding Copies
-copy_none m n limit x w e = (refl, subst (Measures m) e w)
+copy_none m n limit w = (refl, w)
 
 module _ (m n : List ℕ) (limit least : ℕ) (says : table.Says m (λ t. t.limit) least) where
   least_is : (p : Pool) → Holds m p → least ≡ p.limit
   least_is p h = says (table_of p) h.table
 
-  pub copy_limit : limit < least → Copies m limit (Refused NoRoom) n n
+  pub copy_limit : limit < least → Copies m limit (Err NoRoom) n n
   unfolding Copies
   copy_limit l = (refl, λ p h s. omega (arith, least_is p h, s.least))
 
   module _ (words : ℕ) (enough : words ≡ words_for limit) where
-    pub copy_short : length n < words → Copies m limit (Refused NoRoom) n n
+    pub copy_short : length n < words → Copies m limit (Err NoRoom) n n
     unfolding Copies
     copy_short l = (refl, λ p h s. omega (arith, s.words))
 
-    module _ (base size count : ℕ) (x : Extent) (kind : x ≡ extent.Pool base size count) (measures : Measures m x) (long : words ≤ length n) (y : Setup) (n' : List ℕ) (made : Starts n base size limit y n') where
-      measured : Measured m base size count
-      measured = subst (Measures m) kind measures
-
+    module _ (x : Extent) (measured : Measures m (Some x)) (long : words ≤ length n) (n' : List ℕ) where
       -- a pool of these numbers is made for any limit that a table may have
-      makeable : 0 < limit → limit ≤ 4096 → Makes base size limit Ready
+      makeable : 0 < limit → limit ≤ 4096 → Makes x.base x.size limit (Ok tt)
       unfolding Makes Within Lendable
       makeable some most = (measured.some, (omega (arith, measured.within), omega (arith, measured.below, measured.some)), (some, most))
 
-      never : (e : Error) → Makes base size limit Ready → Makes base size limit (Unfit e) → ⊥
+      never : (e : Error) → Makes x.base x.size limit (Ok tt) → Makes x.base x.size limit (Err e) → ⊥
       never e a b =
-          let k = makes_only base size limit Ready a in
-          let l = makes_only base size limit (Unfit e) b in
+          let k = makes_only x.base x.size limit (Ok tt) a in
+          let l = makes_only x.base x.size limit (Err e) b in
           let z : ◌≡◌ {A = ℕ} 0 1 = cc in
           omega arith
 
-      pub copy_unfit : (e : Error) → y ≡ Unfit e → Copies m limit (Refused NoRoom) n n'
+      pub copy_unfit : (e : Error) → Starts n x.base x.size limit (Err e) n' → Copies m limit (Err NoRoom) n n'
       unfolding Starts Copies
-      copy_unfit e k =
-          let w = subst (λ (z : Setup). Starts n base size limit z n') k made in (
-            w.0,
-            λ p h s.
-                let some : 0 < limit = omega (arith, s.least, h.valid.room, row_some p h.valid) in
-                ⊎_elim (never e (makeable some s.most)) (λ z. omega (arith, z.2, s.words)) w.1,
-          )
+      copy_unfit e w = (
+        w.0,
+        λ p h s.
+            let some : 0 < limit = omega (arith, s.least, h.valid.room, row_some p h.valid) in
+            ⊎_elim (never e (makeable some s.most)) (λ z. omega (arith, z.2, s.words)) w.1,
+      )
 
-      pub copy_done : y ≡ Ready → least ≤ limit → (n'' : List ℕ) → Fills m n' base count n'' → Copies m limit Done n n''
+      pub copy_done : Starts n x.base x.size limit (Ok tt) n' → least ≤ limit → (n'' : List ℕ) → Fills m n' x.base x.count n'' → Copies m limit (Ok tt) n n''
       unfolding Starts Copies Makes Lendable
-      copy_done k l n'' f =
-          let w = subst (λ (z : Setup). Starts n base size limit z n') k made in (
-            f.some (fresh base size limit) w.1,
-            λ p h.
-                let fits : p.limit ≤ limit = omega (arith, least_is p h) in
-                let b = measured.first p h in
-                let t = measured.behind p h in (
-                  record { least = fits; most = w.0.2.1; words = omega arith },
-                  f.all p limit h b (measured.all p h) fits (subst (λ (z : Pool). Holds n' z) (λ i. record { state = record { base = b i; top = t i; granted = [] }; limit = limit }) w.1),
-                ),
-          )
+      copy_done w l n'' f = (
+        f.some (fresh x.base x.size limit) w.1,
+        λ p h.
+            let fits : p.limit ≤ limit = omega (arith, least_is p h) in
+            let b = measured.first p h in
+            let t = measured.behind p h in (
+              record { least = fits; most = w.0.2.1; words = omega arith },
+              f.all p limit h b (measured.all p h) fits (subst (λ (z : Pool). Holds n' z) (λ i. record { state = record { base = b i; top = t i; granted = [] }; limit = limit }) w.1),
+            ),
+      )
 
 -- after any refusal the block is as it was
-pub copy_kept : (m n n' : List ℕ) (limit : ℕ) (e : Error) → Copies m limit (Refused e) n n' → n' ≡ n
+pub copy_kept : (m n n' : List ℕ) (limit : ℕ) (e : Error) → Copies m limit (Err e) n n' → n' ≡ n
 unfolding Copies
 copy_kept m n n' limit NoRoom d = d.0
 copy_kept m n n' limit NoState d = d.0

@@ -3,7 +3,7 @@
 --     larger_runs      and so of any sequence of operations
 --     copy_alike_until a copy with a larger limit gives the same answers to the same calls, if none of the source's is "no room"
 -- Assumes nothing.
-use Rattle.std.proofs.Common.{◌≡◌, ℕ, ◌≤◌, List, [], ◌∷◌, sym, refl, subst, arith}
+use Rattle.std.proofs.Common.{◌≡◌, ℕ, ◌≤◌, List, [], ◌∷◌, sym, refl, subst, arith, Ok}
 use mathlib.Core.List.{Memᴰ}
 use Rattle.ranges.specs.declared.Error.TheVariants.{Overflow, OutOfRange, AlreadyReleased, NeverAllocated, ResourceNotAvailable, InvalidRange, InvalidAlignment, UnalignedAddress, Underflow, InvalidSize, NoRoom, InvalidPolicy, NoState}
 use Rattle.addresses.specs.declared.Answer.{Answer}
@@ -15,7 +15,6 @@ use Rattle.addresses.specs.Contract.{Calls}
 use Rattle.addresses.proofs.PoolLaws.{next_same}
 use Rattle.addresses.proofs.RunLaws.{runs_unique}
 use Rattle.addresses.proofs.CallLaws.{calls_run}
-use Rattle.copied.specs.declared.Copied.TheVariants.{Done}
 use Rattle.copied.specs.Copy.{limited, Copies}
 
 pub larger_does : (p : Pool) (limit : ℕ) (o : Operation) (x : Answer) → p.limit ≤ limit → (x ≡ Refused NoRoom → ⊥) → Does p o x → Does (limited p limit) o x
@@ -68,7 +67,7 @@ larger_runs p z limit (o ∷ os) (x ∷ xs) l n r = (
   subst (λ (y : Pool). Runs y os xs (limited z limit)) (larger_next p limit x) (larger_runs (next p x) z limit os xs (omega (arith, (next_same p x).2)) (λ m. n (Memᴰ.tail m)) r.1),
 )
 
-pub copy_alike_until : (m n k m' k' : List ℕ) (p : Pool) (limit : ℕ) (os : List Operation) (xs ys : List Answer) → Holds m p → Copies m limit Done n k → Calls m os xs m' → Calls k os ys k' → (Memᴰ (Refused NoRoom) xs → ⊥) → xs ≡ ys
+pub copy_alike_until : (m n k m' k' : List ℕ) (p : Pool) (limit : ℕ) (os : List Operation) (xs ys : List Answer) → Holds m p → Copies m limit (Ok tt) n k → Calls m os xs m' → Calls k os ys k' → (Memᴰ (Refused NoRoom) xs → ⊥) → xs ≡ ys
 unfolding Copies
 copy_alike_until m n k m' k' p limit os xs ys h c a b full =
     let held = c.1 p h in

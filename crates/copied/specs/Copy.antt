@@ -1,11 +1,10 @@
 -- What copying an address allocator into another block does: m is the source, n the other block before, n' after.
-use Rattle.std.specs.Prelude.{◌≡◌, ℕ, ◌≤◌, List, length}
+use Rattle.std.specs.Prelude.{◌≡◌, ℕ, ◌≤◌, List, length, Result, Ok, Err}
+use Rattle.ranges.specs.declared.Error.{Error}
 use Rattle.ranges.specs.declared.Error.TheVariants.{Overflow, OutOfRange, AlreadyReleased, NeverAllocated, ResourceNotAvailable, InvalidRange, InvalidAlignment, UnalignedAddress, Underflow, InvalidSize, NoRoom, InvalidPolicy, NoState}
 use Rattle.table.specs.Held.{words_for}
 use Rattle.addresses.specs.Operations.{Pool}
 use Rattle.addresses.specs.Held.{Holds}
-use Rattle.copied.specs.declared.Copied.{Copied}
-use Rattle.copied.specs.declared.Copied.TheVariants.{Done, Refused}
 
 -- the same pool with another limit
 abbrev pub limited : Pool → ℕ → Pool
@@ -19,19 +18,19 @@ pub record Suffices (p : Pool) (limit : ℕ) (n : List ℕ) : Type 0 where
 
 -- done: the block holds an allocator, and if the source holds a pool, that pool with the limit, which sufficed
 -- no room: limit or block did not suffice for what the source holds; no state: it holds no pool; the block is as it was
-unfoldable pub Copies : List ℕ → ℕ → Copied → List ℕ → List ℕ → Type 0
-Copies m limit Done n n' = ((q : Pool) × Holds n' q) × ((p : Pool) → Holds m p → Suffices p limit n × Holds n' (limited p limit))
-Copies m limit (Refused NoRoom) n n' = (n' ≡ n) × ((p : Pool) → Holds m p → Suffices p limit n → ⊥)
-Copies m limit (Refused NoState) n n' = (n' ≡ n) × ((p : Pool) → Holds m p → ⊥)
+unfoldable pub Copies : List ℕ → ℕ → Result (Unit {0}) Error → List ℕ → List ℕ → Type 0
+Copies m limit (Ok tt) n n' = ((q : Pool) × Holds n' q) × ((p : Pool) → Holds m p → Suffices p limit n × Holds n' (limited p limit))
+Copies m limit (Err NoRoom) n n' = (n' ≡ n) × ((p : Pool) → Holds m p → Suffices p limit n → ⊥)
+Copies m limit (Err NoState) n n' = (n' ≡ n) × ((p : Pool) → Holds m p → ⊥)
 -- nothing else is answered
-Copies m limit (Refused Overflow) n n' = ⊥
-Copies m limit (Refused OutOfRange) n n' = ⊥
-Copies m limit (Refused AlreadyReleased) n n' = ⊥
-Copies m limit (Refused NeverAllocated) n n' = ⊥
-Copies m limit (Refused ResourceNotAvailable) n n' = ⊥
-Copies m limit (Refused InvalidRange) n n' = ⊥
-Copies m limit (Refused InvalidAlignment) n n' = ⊥
-Copies m limit (Refused UnalignedAddress) n n' = ⊥
-Copies m limit (Refused Underflow) n n' = ⊥
-Copies m limit (Refused InvalidSize) n n' = ⊥
-Copies m limit (Refused InvalidPolicy) n n' = ⊥
+Copies m limit (Err Overflow) n n' = ⊥
+Copies m limit (Err OutOfRange) n n' = ⊥
+Copies m limit (Err AlreadyReleased) n n' = ⊥
+Copies m limit (Err NeverAllocated) n n' = ⊥
+Copies m limit (Err ResourceNotAvailable) n n' = ⊥
+Copies m limit (Err InvalidRange) n n' = ⊥
+Copies m limit (Err InvalidAlignment) n n' = ⊥
+Copies m limit (Err UnalignedAddress) n n' = ⊥
+Copies m limit (Err Underflow) n n' = ⊥
+Copies m limit (Err InvalidSize) n n' = ⊥
+Copies m limit (Err InvalidPolicy) n n' = ⊥

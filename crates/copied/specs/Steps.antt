@@ -1,7 +1,6 @@
 -- What the private steps of a copy do: m is the source, n the copy before the step, n' after.
-use Rattle.std.specs.Prelude.{◌≡◌, ℕ, ◌+◌, ◌-◌, ◌%◌, ◌^◌, ◌<◌, ◌≤◌, ◌⊎◌, List, [], length, ◌≢◌}
+use Rattle.std.specs.Prelude.{◌≡◌, ℕ, ◌+◌, ◌-◌, ◌%◌, ◌^◌, ◌<◌, ◌≤◌, ◌⊎◌, List, [], length, ◌≢◌, Option, Some, None}
 use Rattle.ranges.specs.declared.AllocPolicy.TheVariants.{ExactMatch}
-use Rattle.ranges.specs.declared.RangeInclusive.{RangeInclusive}
 use Rattle.table.specs.Tiles.{Has}
 use Rattle.addresses.specs.declared.Answer.{Answer}
 use Rattle.addresses.specs.Meaning.{row_of}
@@ -10,7 +9,6 @@ use Rattle.addresses.specs.Held.{Holds}
 use Rattle.addresses.specs.Contract.{Performs, asking}
 use Rattle.copied.specs.Copy.{limited}
 use Rattle.copied.specs.declared.Extent.{Extent}
-use Rattle.copied.specs.declared.Extent.TheVariants as extent
 
 -- the range from s to e was asked for, just so
 abbrev pub Placed : List ℕ → ℕ → ℕ → List ℕ → Type 0
@@ -51,6 +49,6 @@ pub record Measured (m : List ℕ) (base size count : ℕ) : Type 0 where
   pub behind : (p : Pool) → Holds m p → base + size ≡ p.state.top
   pub all : (p : Pool) → Holds m p → count ≡ length (row_of p.state)
 
-abbrev pub Measures : List ℕ → Extent → Type 0
-Measures m (extent.Pool base size count) = Measured m base size count
-Measures m extent.Missing = (p : Pool) → Holds m p → ⊥
+abbrev pub Measures : List ℕ → Option Extent → Type 0
+Measures m (Some x) = Measured m x.base x.size x.count
+Measures m None = (p : Pool) → Holds m p → ⊥

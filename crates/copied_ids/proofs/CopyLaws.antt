@@ -1,58 +1,59 @@
 -- Laws of `copy`, and what a caller has of it. From the public contracts and laws of `ids` alone.
 --     copy_none, copy_cut, copy_short, copy_done     the four ways in which `copy` ends
---     put_more                                       one word more
 --     apart                                          of calls on two blocks in any order, those on one are answered as with no other block there
 --     untouched                                      so a block of which nothing is asked keeps its words
 --     copy_alike                                     a copy gives to the same calls the same answers, whatever is done to the other in between
 -- Assumes nothing.
-use Prim.Native.Nat.{ℕ, ◌+◌, ◌≤◌, ◌<◌}
-use mathlib.Core.Path.{◌≡◌, refl, sym, ◌∙◌, ap, subst}
-use mathlib.Core.Logic.{◌⊎◌, inl, inr, ⊎_elim}
-use mathlib.Core.List.{List, [], ◌∷◌}
-use borrow.Author.Count.{below_more}
+use Rattle.std.proofs.Common.{Option, Some, None, Ok, Err}
+use Prim.Native.Nat.{ℕ, ◌≤◌, ◌<◌}
+use mathlib.Core.Path.{◌≡◌, refl, ◌∙◌, subst}
+use mathlib.Core.Logic.{inl, inr}
+use mathlib.Core.List.{List, [], ◌∷◌, ◌++◌}
 use native.Mathlib.Omega.{arith}
-use lib.ListN.{length, get_or, set}
-use lib.Seq.{get_or-set_same, get_or-set_other}
+use lib.ListN.{length, take, drop, length-take, length-drop, length-append}
+use Rattle.std.proofs.lemmas.List.{get_or_append_left, get_or-take}
 use Rattle.ranges.specs.declared.Error.{Error}
 use Rattle.ids.specs.State.{State}
 use Rattle.ids.specs.Runs.{Event, questions, SameFuture}
 use Rattle.ids.specs.Held.{Holds, Needs}
 use Rattle.ids.specs.Contract.{Describes, Chain}
 use Rattle.ids.specs.declared.Interval.{Interval}
-use Rattle.ids.specs.declared.Interval.TheVariants.{Of, NoState}
 use Rattle.ids.proofs.FirstWords.{holds_words, holds_long}
 use Rattle.ids.proofs.Futures.{runs_one}
 use Rattle.ids.proofs.Chains.{chain_runs}
-use Rattle.copied_ids.specs.declared.Copied.TheVariants.{Done, Refused}
-use Rattle.copied_ids.specs.Copy.{Begins, Long, Short, Copies}
+use Rattle.copied_ids.specs.Copy.{Begins, Copies}
 use Rattle.copied_ids.specs.Two.{Turn, One, Other, Happen, ones, others}
 
-pub copy_none : (m n : List ℕ) (x : Interval) → Describes m x → x ≡ NoState → Copies m (Refused Error.NoState) n n
+-- the first k words, taken over
+taken_begins : (src dst : List ℕ) (k : ℕ) → k ≤ length src → Begins k src (take k src ++ drop k dst)
+taken_begins src dst k l i u =
+    get_or_append_left (take k src) (drop k dst) 0 i (omega (arith, length-take {A = ℕ})) ∙ get_or-take k src i 0 u
+
+taken_length : (src dst : List ℕ) (k : ℕ) → k ≤ length src → k ≤ length dst → length (take k src ++ drop k dst) ≡ length dst
+taken_length src dst k l d = omega (arith, length-append {A = ℕ}, length-take {A = ℕ}, length-drop {A = ℕ})
+
+pub copy_none : (m n : List ℕ) (x : Option Interval) → Describes m x → x ≡ None → Copies m (Err Error.NoState) n n
 unfolding Copies
 copy_none m n x w e = (refl, inl (refl, subst (Describes m) e w))
 
-module _ (m n : List ℕ) (x : Interval) (w : Describes m x) (low high next k : ℕ) (e : x ≡ Of low high next) (need : Needs low high k) where
+module _ (m n : List ℕ) (x : Option Interval) (w : Describes m x) (i : Interval) (k : ℕ) (e : x ≡ Some i) (need : Needs i.low i.high k) where
   needed : (s : State) → Holds m s → Needs s.low s.high k
   needed s h =
       let d = subst (Describes m) e w s h in
-      subst (λ (y : ℕ). Needs s.low y k) d.1 (subst (λ (y : ℕ). Needs y high k) d.0 need)
+      subst (λ (y : ℕ). Needs s.low y k) d.1 (subst (λ (y : ℕ). Needs y i.high k) d.0 need)
 
-  pub copy_cut : length m < k → Copies m (Refused Error.NoState) n n
+  pub copy_cut : length m < k → Copies m (Err Error.NoState) n n
   unfolding Copies
   copy_cut l = (refl, inl (refl, λ s h. omega (arith, holds_long m s k h (needed s h))))
 
-  pub copy_short : length n < k → Copies m (Refused Error.NoRoom) n n
+  pub copy_short : length n < k → Copies m (Err Error.NoRoom) n n
   unfolding Copies
   copy_short l = (refl, inr (refl, λ s h. (k, needed s h, l)))
 
-  pub copy_done : k ≤ length n → (n' : List ℕ) → length n' ≡ length n → Begins k m n' → Copies m Done n n'
+  pub copy_done : k ≤ length m → k ≤ length n → Copies m (Ok tt) n (take k m ++ drop k n)
   unfolding Copies
-  copy_done l n' same b s h = ((k, needed s h, l), holds_words m n' s k h (needed s h) (omega arith) b)
-
--- one word more
-pub put_more : (src dst : List ℕ) (k : ℕ) → k < length dst → Begins k src dst → Begins (k + 1) src (set dst k (get_or src k 0))
-put_more src dst k l b =
-    below_more (λ (i : ℕ). get_or (set dst k (get_or src k 0)) i 0 ≡ get_or src i 0) k (λ i u. get_or-set_other dst k i (get_or src k 0) 0 (λ e. omega arith) ∙ b i u) (get_or-set_same dst k (get_or src k 0) 0 l)
+  copy_done l r s h =
+      ((k, needed s h, r), holds_words m (take k m ++ drop k n) s k h (needed s h) (omega (arith, taken_length m n k l r)) (taken_begins m n k l))
 
 -- ---- two blocks
 
@@ -72,7 +73,7 @@ pub untouched_other : (m n m' n' : List ℕ) (ts : List Turn) → Happen m n ts 
 unfolding Chain
 untouched_other m n m' n' ts h e = subst (λ (es : List Event). Chain n es n') e (apart m n m' n' ts h).1
 
-pub copy_alike : (m n k m' k' : List ℕ) (s : State) (ts : List Turn) → Holds m s → Copies m Done n k → Happen m k ts m' k' → questions (ones ts) ≡ questions (others ts) → ones ts ≡ others ts
+pub copy_alike : (m n k m' k' : List ℕ) (s : State) (ts : List Turn) → Holds m s → Copies m (Ok tt) n k → Happen m k ts m' k' → questions (ones ts) ≡ questions (others ts) → ones ts ≡ others ts
 unfolding Copies SameFuture
 copy_alike m n k m' k' s ts h c w e =
     let a = apart m k m' k' ts w in

@@ -13,13 +13,11 @@ use Rattle.text.specs.declared.Class.{Class}
 use Rattle.text.specs.declared.Class.TheVariants.{Solid, Undotted}
 use Rattle.numerals.specs.Numeral.{read}
 use Rattle.numerals.specs.Spelled.{spell, hexadecimal}
-use Rattle.numerals.specs.declared.Value.TheVariants.{Number}
+use Rattle.std.proofs.Common.{Ok}
 use Rattle.numerals.proofs.Plain.{Plain, AllPlain, spell_plain}
 use Rattle.numerals.proofs.RoundTrip.{hexadecimal_reads}
 use Rattle.fields.specs.Answers.{window_text}
 use Rattle.fields.specs.Fields.{value_at, number_in, window_at}
-use Rattle.fields.specs.declared.NumberTaken.{NumberTaken}
-use Rattle.fields.specs.declared.WindowTaken.{WindowTaken}
 use Rattle.fields.proofs.Windows.{window_length}
 
 -- every byte is of a class
@@ -101,14 +99,14 @@ module _ (low high : ℕ) where
       ap (take (length (window_text low high) - (length (hexadecimal low) + 2))) (drop-append-add (hexadecimal low) (46 ∷ (46 ∷ hexadecimal high)) 2)
       ∙ take_all (length (window_text low high) - (length (hexadecimal low) + 2)) (hexadecimal high) (omega (arith, window_length low high))
 
-  number : (x y : ℕ) (t : List ℕ) (n : ℕ) → between (window_text low high) x y ≡ t → read t ≡ Number n → number_in (window_text low high) x y ≡ NumberTaken.Is n y
+  number : (x y : ℕ) (t : List ℕ) (n : ℕ) → between (window_text low high) x y ≡ t → read t ≡ Ok n → number_in (window_text low high) x y ≡ Ok (n, y)
   unfolding number_in
   number x y t n e r = ap (λ (u : List ℕ). value_at x y (read u)) e ∙ ap (value_at x y) r
 
-  pub window_reads : low < 2 ^ 64 → high < 2 ^ 64 → window_at (window_text low high) 0 ≡ WindowTaken.Is low high (length (window_text low high))
+  pub window_reads : low < 2 ^ 64 → high < 2 ^ 64 → window_at (window_text low high) 0 ≡ Ok (low, high, length (window_text low high))
   unfolding window_at
   window_reads a b =
       let l : length (hexadecimal low) + 2 ≤ length (window_text low high) = omega (arith, window_length low high) in
-      let p : number_in (window_text low high) 0 (length (hexadecimal low)) ≡ NumberTaken.Is low (length (hexadecimal low)) = number 0 (length (hexadecimal low)) (hexadecimal low) low first_part (hexadecimal_reads low a) in
-      let q : number_in (window_text low high) (length (hexadecimal low) + 2) (length (window_text low high)) ≡ NumberTaken.Is high (length (window_text low high)) = number (length (hexadecimal low) + 2) (length (window_text low high)) (hexadecimal high) high second_part (hexadecimal_reads high b) in
+      let p : number_in (window_text low high) 0 (length (hexadecimal low)) ≡ Ok (low, length (hexadecimal low)) = number 0 (length (hexadecimal low)) (hexadecimal low) low first_part (hexadecimal_reads low a) in
+      let q : number_in (window_text low high) (length (hexadecimal low) + 2) (length (window_text low high)) ≡ Ok (high, length (window_text low high)) = number (length (hexadecimal low) + 2) (length (window_text low high)) (hexadecimal high) high second_part (hexadecimal_reads high b) in
       rw starts (rw stops (rw ends (rw (le-ltb _ _ l) (rw second_dot (rw p (rw q))))))

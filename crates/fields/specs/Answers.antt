@@ -1,5 +1,5 @@
 -- Answers as text, in the form of the claims.
-use Rattle.std.specs.Prelude.{List, [], ◌∷◌, ◌++◌, ℕ}
+use Rattle.std.specs.Prelude.{List, ◌∷◌, ◌++◌, ℕ}
 use Rattle.numerals.specs.Spelled.{hexadecimal}
 
 -- a window: both ends in hexadecimal, with two dots between them

@@ -4,11 +4,11 @@
 #![tactic(auto)]
 
 ghost use Rattle.std.specs.Prelude.{◌≡◌, ◌≤◌, length};
-ghost use Rattle.fields.specs.Fields.{name_at, number_in, number_at, id_at, window_at, policy_at};
+ghost use Rattle.fields.specs.Fields.{wrong, name_at, number_in, number_at, id_at, window_at, policy_at, end_at};
 
 mod print;
 
-use numerals::Value;
+use numerals::NoNumber;
 pub use print::put_window;
 use ranges::AllocPolicy;
 use text::Class;
@@ -39,135 +39,125 @@ pub enum Flaw {
     CountExpected,
 }
 
+// What is wrong, and where.
 #[derive(Clone, Copy)]
-pub enum NameTaken {
-    Is(Name, usize),
-    Wrong(Flaw, usize),
+pub struct Wrong {
+    pub why: Flaw,
+    pub at: usize,
 }
 
-#[derive(Clone, Copy)]
-pub enum NumberTaken {
-    Is(u64, usize),
-    Wrong(Flaw, usize),
-}
-
-#[derive(Clone, Copy)]
-pub enum IdTaken {
-    Is(u32, usize),
-    Wrong(Flaw, usize),
-}
-
-#[derive(Clone, Copy)]
-pub enum WindowTaken {
-    Is(u64, u64, usize),
-    Wrong(Flaw, usize),
-}
-
-#[derive(Clone, Copy)]
-pub enum PolicyTaken {
-    Is(AllocPolicy, usize),
-    Wrong(Flaw, usize),
+impl Flaw {
+    // The flaw at a place of the line.
+    pub fn at(self, place: usize) -> Wrong
+        ensures { result ≡ wrong self place }
+    {
+        Wrong {
+            why: self,
+            at: place,
+        }
+    }
 }
 
 // A word of letters, digits, `-` and `_`, of 31 bytes at most.
-pub fn take_name(s: &[u8], at: usize) -> NameTaken
+#[tactic(auto, unfolding(crate::specs::Fields::name_at))]
+pub fn take_name(s: &[u8], at: usize) -> Result<(Name, usize), Wrong>
     ensures { result ≡ name_at s.now at }
 {
     let a = text::start(s, at);
     let e = text::end(s, at);
     let m = text::scan(s, a, Class::Named);
     if a == m {
-        return NameTaken::Wrong(Flaw::NameExpected, a);
+        return Err(Flaw::NameExpected.at(a));
     }
     if m != e {
-        return NameTaken::Wrong(Flaw::NameExpected, m);
+        return Err(Flaw::NameExpected.at(m));
     }
-    if e - a > 31 {
-        return NameTaken::Wrong(Flaw::NameTooLong, a);
+    let len = e - a;
+    if len > 31 {
+        return Err(Flaw::NameTooLong.at(a));
     }
-    NameTaken::Is(
-        Name {
-            start: a,
-            len: e - a,
-        },
-        e,
-    )
+    Ok((Name { start: a, len }, e))
 }
 
 // The number that stands from a to e.
-fn number_in(s: &[u8], a: usize, e: usize) -> NumberTaken
+#[tactic(auto, unfolding(crate::specs::Fields::number_in))]
+fn number_in(s: &[u8], a: usize, e: usize) -> Result<(u64, usize), Wrong>
     requires a_le_e { a ≤ e }
     requires e_in_bounds { e ≤ length s.now }
     ensures { result ≡ number_in s.now a e }
 {
     match numerals::read(&s[a..e]) {
-        Value::Number(n) => NumberTaken::Is(n, e),
-        Value::NoDigit(i) => NumberTaken::Wrong(Flaw::NumberExpected, a + i),
-        Value::TooLarge => NumberTaken::Wrong(Flaw::NumberTooLarge, a),
+        Ok(n) => Ok((n, e)),
+        Err(NoNumber::NoDigit(i)) => Err(Flaw::NumberExpected.at(a + i)),
+        Err(NoNumber::TooLarge) => Err(Flaw::NumberTooLarge.at(a)),
     }
 }
 
 // A word that is a numeral.
-pub fn take_number(s: &[u8], at: usize) -> NumberTaken
+#[tactic(auto, unfolding(crate::specs::Fields::number_at))]
+pub fn take_number(s: &[u8], at: usize) -> Result<(u64, usize), Wrong>
     ensures { result ≡ number_at s.now at }
 {
     number_in(s, text::start(s, at), text::end(s, at))
 }
 
 // A number of 32 bits.
-pub fn take_id(s: &[u8], at: usize) -> IdTaken
+#[tactic(auto, unfolding(crate::specs::Fields::id_at))]
+pub fn take_id(s: &[u8], at: usize) -> Result<(u32, usize), Wrong>
     ensures { result ≡ id_at s.now at }
 {
-    match take_number(s, at) {
-        NumberTaken::Is(n, i) => {
-            if n < 4294967296 {
-                IdTaken::Is(n as u32, i)
-            } else {
-                IdTaken::Wrong(Flaw::NumberTooLarge, text::start(s, at))
-            }
-        }
-        NumberTaken::Wrong(w, i) => IdTaken::Wrong(w, i),
+    let (n, next) = take_number(s, at)?;
+    if n > u32::MAX as u64 {
+        return Err(Flaw::NumberTooLarge.at(text::start(s, at)));
     }
+    Ok((n as u32, next))
 }
 
 // Two numbers with two dots between them, in one word.
-pub fn take_window(s: &[u8], at: usize) -> WindowTaken
+#[tactic(auto, unfolding(crate::specs::Fields::window_at))]
+pub fn take_window(s: &[u8], at: usize) -> Result<(u64, u64, usize), Wrong>
     ensures { result ≡ window_at s.now at }
 {
     let a = text::start(s, at);
     let e = text::end(s, at);
     let m = text::scan(s, a, Class::Undotted);
     if e < m + 2 {
-        return WindowTaken::Wrong(Flaw::WindowExpected, a);
+        return Err(Flaw::WindowExpected.at(a));
     }
     if s[m + 1] != b'.' {
-        return WindowTaken::Wrong(Flaw::WindowExpected, m);
+        return Err(Flaw::WindowExpected.at(m));
     }
-    match number_in(s, a, m) {
-        NumberTaken::Wrong(w, i) => WindowTaken::Wrong(w, i),
-        NumberTaken::Is(low, _) => match number_in(s, m + 2, e) {
-            NumberTaken::Wrong(w, i) => WindowTaken::Wrong(w, i),
-            NumberTaken::Is(high, i) => WindowTaken::Is(low, high, i),
-        },
-    }
+    let (low, _) = number_in(s, a, m)?;
+    let (high, next) = number_in(s, m + 2, e)?;
+    Ok((low, high, next))
 }
 
 // `first`, `last`, or `exact` and a number.
-pub fn take_policy(s: &[u8], at: usize) -> PolicyTaken
+#[tactic(auto, unfolding(crate::specs::Fields::policy_at))]
+pub fn take_policy(s: &[u8], at: usize) -> Result<(AllocPolicy, usize), Wrong>
     ensures { result ≡ policy_at s.now at }
 {
     let e = text::end(s, at);
     if vocabulary::next_is(s, at, Word::First) {
-        return PolicyTaken::Is(AllocPolicy::FirstMatch, e);
+        return Ok((AllocPolicy::FirstMatch, e));
     }
     if vocabulary::next_is(s, at, Word::Last) {
-        return PolicyTaken::Is(AllocPolicy::LastMatch, e);
+        return Ok((AllocPolicy::LastMatch, e));
     }
     if vocabulary::next_is(s, at, Word::Exact) {
-        return match take_number(s, e) {
-            NumberTaken::Is(n, i) => PolicyTaken::Is(AllocPolicy::ExactMatch(n), i),
-            NumberTaken::Wrong(w, i) => PolicyTaken::Wrong(w, i),
-        };
+        let (start, next) = take_number(s, e)?;
+        return Ok((AllocPolicy::ExactMatch(start), next));
     }
-    PolicyTaken::Wrong(Flaw::PolicyExpected, text::start(s, at))
+    Err(Flaw::PolicyExpected.at(text::start(s, at)))
+}
+
+// Nothing more: no word stands from `at` on.
+pub fn take_end(s: &[u8], at: usize) -> Result<(), Wrong>
+    ensures { result ≡ end_at s.now at }
+{
+    if text::no_word(s, at) {
+        Ok(())
+    } else {
+        Err(Flaw::LeftOver.at(text::start(s, at)))
+    }
 }

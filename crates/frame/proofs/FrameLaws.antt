@@ -1,23 +1,19 @@
 -- Frames. Assumes nothing.
 --     flawed_none      where something is wrong there is no frame
+--     flawed_at        what is wrong, by the parts of an answer
 --     frame_same       a frame by other names of its numbers
 --     frame_words      frames of the same numbers around the same words are the same words
---     three_puts       three words set one after the other
+--     headed_none, headed_more, headed_all     the words of the head set one after the other
 --     sealed           the steps of `seal` make a frame
 --     frame_changed    a frame of which one byte is changed is none any more: so it is with one flipped bit
-use Prim.Native.Nat.{ℕ, zero, suc, ◌+◌, ◌*◌, ◌/◌, ◌≤◌, ◌<◌}
-use mathlib.Core.Path.{◌≡◌, sym, ap, ◌∙◌, subst}
-use mathlib.Core.Logic.{◌⊎◌, ⊎_elim, inl, inr}
-use mathlib.Core.List.{List}
-use native.Mathlib.Omega.{arith}
-use lib.ListN.{length, get_or}
+use Rattle.std.proofs.Common.{ℕ, zero, suc, ◌+◌, ◌*◌, ◌/◌, ◌≤◌, ◌<◌, ◌≡◌, refl, sym, ap, ◌∙◌, subst, ◌⊎◌, ⊎_elim, inl, inr, List, [], ◌∷◌, length, get_or, Err, arith}
 use Rattle.octets.specs.Octets.{word, check, Bytes, Puts}
 use Rattle.octets.proofs.Words.{below_or_not, word_below, word_same, word_bytes, put_word}
 use Rattle.octets.proofs.CheckLaws.{check_same, check_differs}
-use Rattle.frame.specs.Frame.{Frame, Flawed, Seals}
+use Rattle.frame.specs.Frame.{Frame, Flawed, Opens, Seals}
+use Rattle.frame.specs.declared.Fault.{Fault}
 use Rattle.frame.specs.declared.Flaw.{Flaw}
 use Rattle.frame.specs.declared.Flaw.TheVariants.{Short, Kind, Version, Check, Bounds, Limit, Count, State, Order, Outside, Touching}
-use Rattle.frame.specs.Steps.{Three}
 
 pub flawed_none : (bs : List ℕ) (k : ℕ) (flaw : Flaw) (at a b c n : ℕ) → Flawed bs k flaw at → Frame k a b c n bs → ⊥
 unfolding Flawed
@@ -33,15 +29,33 @@ flawed_none bs k Order at a b c n w f = w
 flawed_none bs k Outside at a b c n w f = w
 flawed_none bs k Touching at a b c n w f = w
 
-pub three_puts : (i x j y k z : ℕ) (a b c d : List ℕ) → 64 ≤ length a → i < j → j < k → k < 8 → Puts a i x b → Puts b j y c → Puts c k z d → Three i x j y k z a d
-three_puts i x j y k z a b c d l p q r u v w = record {
-  long = w.long ∙ v.long ∙ u.long;
-  one = put_word c d k z w i (λ (e : i ≡ k). omega arith) ∙ put_word b c j y v i (λ (e : i ≡ j). omega arith) ∙ u.says (omega arith);
-  two = put_word c d k z w j (λ (e : j ≡ k). omega arith) ∙ v.says (omega (arith, u.long));
-  three = w.says (omega (arith, u.long, v.long));
-  other = λ m f g h. put_word c d k z w m h ∙ put_word b c j y v m g ∙ put_word a b i x u m f;
-  behind = λ m h. w.other m (inr (omega arith)) ∙ v.other m (inr (omega arith)) ∙ u.other m (inr (omega arith));
+-- what is wrong, by the parts of an answer
+pub flawed_at : (bs : List ℕ) (k : ℕ) (r : Fault) (f : Flaw) (at : ℕ) → r.flaw ≡ f → r.place ≡ at → Flawed bs k f at → Opens bs k (Err r)
+unfolding Opens Flawed
+flawed_at bs k r f at p q w = rw (p, q) w
+
+-- the first i words are those of the list hs, and no byte behind them is changed
+pub record Headed (hs : List ℕ) (i : ℕ) (bs bs' : List ℕ) : Type 0 where
+  pub long : length bs' ≡ length bs
+  pub says : (j : ℕ) → j < i → word bs' j ≡ get_or hs j 0
+  pub behind : (j : ℕ) → 8 * i ≤ j → get_or bs' j 0 ≡ get_or bs j 0
+
+pub headed_none : (hs bs : List ℕ) → Headed hs 0 bs bs
+headed_none hs bs = record { long = refl; says = λ j l. absurd (omega arith); behind = λ j l. refl }
+
+pub headed_more : (hs : List ℕ) (i x : ℕ) (a b c : List ℕ) → 8 * i + 8 ≤ length a → x ≡ get_or hs i 0 → Headed hs i a b → Puts b i x c → Headed hs (i + 1) a c
+headed_more hs i x a b c l e f p = record {
+  long = p.long ∙ f.long;
+  says = λ j h.
+      ⊎_elim
+      (λ (d : j < i). put_word b c i x p j (λ (z : j ≡ i). omega arith) ∙ f.says j d)
+      (λ (d : i ≤ j). let z : i ≡ j = omega arith in subst (λ (y : ℕ). word c y ≡ get_or hs y 0) z (p.says (omega (arith, l, f.long)) ∙ e))
+      (below_or_not j i);
+  behind = λ j h. p.other j (inr (omega arith)) ∙ f.behind j (omega arith);
 }
+
+pub headed_all : (hs : List ℕ) (i n : ℕ) (a b : List ℕ) → i ≡ n → Headed hs i a b → Headed hs n a b
+headed_all hs i n a b e f = subst (λ (x : ℕ). Headed hs x a b) e f
 
 -- a frame by other names of its numbers
 pub frame_same : (k a b c n a' b' c' n' : ℕ) (bs : List ℕ) → Frame k a b c n bs → a ≡ a' → b ≡ b' → c ≡ c' → n ≡ n' → Frame k a' b' c' n' bs
@@ -90,10 +104,7 @@ module _ (k a b c n : ℕ) (u v : List ℕ) (f : Frame k a b c n u) (g : Frame k
   frame_bytes p q j l = word_bytes u v (j / 8) p q (frame_words (j / 8) (omega arith)) j (omega arith) (omega arith)
 
 -- the steps of `seal`
-module _ (k a b c n : ℕ) (v w x y z : List ℕ) (l : 8 * (8 + n) ≤ length v) (p : Three 0 k 1 1 5 n v w) (q : Three 2 a 3 b 4 c w x) (r : Puts x 6 (check (word x) 6) y) (s : Puts y (7 + n) (check (word y) (7 + n)) z) where
-  long_x : length x ≡ length v
-  long_x = q.long ∙ p.long
-
+module _ (k a b c n : ℕ) (v x y z : List ℕ) (l : 8 * (8 + n) ≤ length v) (p : Headed (k ∷ 1 ∷ a ∷ b ∷ c ∷ n ∷ []) 6 v x) (r : Puts x 6 (check (word x) 6) y) (s : Puts y (7 + n) (check (word y) (7 + n)) z) where
   -- a word that neither check is
   front : (i : ℕ) → i < 6 → word z i ≡ word x i
   front i h = put_word y z (7 + n) (check (word y) (7 + n)) s i (λ (e : i ≡ 7 + n). omega arith) ∙ put_word x y 6 (check (word x) 6) r i (λ (e : i ≡ 6). omega arith)
@@ -102,37 +113,33 @@ module _ (k a b c n : ℕ) (v w x y z : List ℕ) (l : 8 * (8 + n) ≤ length v)
   head_check : word z 6 ≡ check (word z) 6
   head_check =
       put_word y z (7 + n) (check (word y) (7 + n)) s 6 (λ (e : 6 ≡ 7 + n). omega arith)
-      ∙ r.says (omega (arith, l, long_x))
+      ∙ r.says (omega (arith, l, p.long))
       ∙ check_same (word x) (word z) 6 (λ j h. sym (front j h))
 
   last_check : word z (7 + n) ≡ check (word z) (7 + n)
   last_check =
-      s.says (omega (arith, l, long_x, r.long))
+      s.says (omega (arith, l, p.long, r.long))
       ∙ check_same (word y) (word z) (7 + n) (λ j h. sym (put_word y z (7 + n) (check (word y) (7 + n)) s j (λ (e : j ≡ 7 + n). omega arith)))
-
-  kept : (i : ℕ) → i < 6 → (i ≡ 2 → ⊥) → (i ≡ 3 → ⊥) → (i ≡ 4 → ⊥) → word z i ≡ word w i
-  kept i h d e f = front i h ∙ q.other i d e f
 
   pub sealed : Seals k a b c n v z
   sealed = record {
-    long = s.long ∙ r.long ∙ long_x;
+    long = s.long ∙ r.long ∙ p.long;
     made = λ h. record {
-      long = omega (arith, l, long_x, r.long, s.long);
-      kind = kept 0 (omega arith) (λ e. omega arith) (λ e. omega arith) (λ e. omega arith) ∙ p.one;
-      version = kept 1 (omega arith) (λ e. omega arith) (λ e. omega arith) (λ e. omega arith) ∙ p.two;
-      first = front 2 (omega arith) ∙ q.one;
-      second = front 3 (omega arith) ∙ q.two;
-      third = front 4 (omega arith) ∙ q.three;
-      count = kept 5 (omega arith) (λ e. omega arith) (λ e. omega arith) (λ e. omega arith) ∙ p.three;
+      long = omega (arith, l, p.long, r.long, s.long);
+      kind = front 0 (omega arith) ∙ p.says 0 (omega arith);
+      version = front 1 (omega arith) ∙ p.says 1 (omega arith);
+      first = front 2 (omega arith) ∙ p.says 2 (omega arith);
+      second = front 3 (omega arith) ∙ p.says 3 (omega arith);
+      third = front 4 (omega arith) ∙ p.says 4 (omega arith);
+      count = front 5 (omega arith) ∙ p.says 5 (omega arith);
       head = head_check;
       last = last_check;
     };
     words = λ i h m.
         put_word y z (7 + n) (check (word y) (7 + n)) s i (λ (e : i ≡ 7 + n). omega arith)
         ∙ put_word x y 6 (check (word x) 6) r i (λ (e : i ≡ 6). omega arith)
-        ∙ q.other i (λ e. omega arith) (λ e. omega arith) (λ e. omega arith)
-        ∙ p.other i (λ e. omega arith) (λ e. omega arith) (λ e. omega arith);
-    behind = λ j h. s.other j (inr (omega arith)) ∙ r.other j (inr (omega arith)) ∙ q.behind j (omega arith) ∙ p.behind j (omega arith);
+        ∙ word_same x v i (λ j d e. p.behind j (omega arith));
+    behind = λ j h. s.other j (inr (omega arith)) ∙ r.other j (inr (omega arith)) ∙ p.behind j (omega arith);
     none = λ f. absurd (f l);
   }
 

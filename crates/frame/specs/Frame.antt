@@ -1,10 +1,10 @@
 -- The frame of a saved allocator: what stands around its words. All of it is words of eight bytes.
-use Rattle.std.specs.Prelude.{ℕ, ◌+◌, ◌*◌, ◌≤◌, ◌<◌, ◌≡◌, ◌⊎◌, List, length, get_or}
+use Rattle.std.specs.Prelude.{ℕ, ◌+◌, ◌*◌, ◌≤◌, ◌<◌, ◌≡◌, ◌⊎◌, List, length, get_or, Result, Ok, Err}
 use Rattle.octets.specs.Octets.{word, check}
 use Rattle.frame.specs.declared.Flaw.{Flaw}
 use Rattle.frame.specs.declared.Flaw.TheVariants.{Short, Kind, Version, Check, Bounds, Limit, Count, State, Order, Outside, Touching}
 use Rattle.frame.specs.declared.Opened.{Opened}
-use Rattle.frame.specs.declared.Opened.TheVariants.{Good, Bad}
+use Rattle.frame.specs.declared.Fault.{Fault}
 
 -- the bytes begin with a frame of the kind k, with the numbers a, b and c, around n words, which are words 7 to 6 + n
 pub record Frame (k a b c n : ℕ) (bs : List ℕ) : Type 0 where
@@ -35,10 +35,10 @@ Flawed bs k Outside at = ⊥
 Flawed bs k Touching at = ⊥
 
 -- what `read` answers: the numbers of the frame of the kind k, or why there is none (`flawed_none`)
-unfoldable pub Opens : List ℕ → ℕ → Opened → Type 0
+unfoldable pub Opens : List ℕ → ℕ → Result Opened Fault → Type 0
 unfolding Flawed
-Opens bs k (Good a b c n) = Frame k a b c n bs
-Opens bs k (Bad flaw place) = Flawed bs k flaw place
+Opens bs k (Ok o) = Frame k o.first o.second o.third o.words bs
+Opens bs k (Err f) = Flawed bs k f.flaw f.place
 
 -- what `seal` does: there is a frame around the n words, which are as they were, and so is what is behind it; or there is no room, and nothing is changed
 pub record Seals (k a b c n : ℕ) (bs bs' : List ℕ) : Type 0 where

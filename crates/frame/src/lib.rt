@@ -2,14 +2,14 @@
 // all. Every public function is total: it demands nothing of its caller.
 #![tactic(auto)]
 
-ghost use Rattle.std.specs.Prelude.{◌≡◌, ◌+◌, ◌*◌, ◌<◌, ◌≤◌, length};
+ghost use Rattle.std.specs.Prelude.{◌≡◌, ◌+◌, ◌*◌, ◌≤◌, length};
 ghost use Rattle.octets.specs.Octets.{word, check as check_of, Puts};
 ghost use Rattle.frame.specs.Frame.{Opens, Seals};
 ghost use Rattle.frame.specs.Flaws.{number_of};
-ghost use Rattle.frame.specs.Steps.{Three};
+ghost use Rattle.frame.specs.declared.LoadError.TheVariants.{Bad};
 
 // Why bytes are no saved allocator. The order is that of the numbers, which never change.
-#[derive(Clone, Copy)]
+#[derive(Clone, Copy, PartialEq, Eq)]
 pub enum Flaw {
     // They end too early.
     Short,
@@ -53,82 +53,85 @@ impl Flaw {
     }
 }
 
-// The numbers of a frame, or a flaw and the place of the byte at which it stands.
-#[derive(Clone, Copy)]
-pub enum Opened {
-    Good {
-        first: u64,
-        second: u64,
-        third: u64,
-        words: usize,
-    },
-    Bad {
-        flaw: Flaw,
-        place: usize,
-    },
+// The three numbers of a frame, and how many words it is around.
+#[derive(Clone, Copy, PartialEq, Eq)]
+pub struct Opened {
+    pub first: u64,
+    pub second: u64,
+    pub third: u64,
+    pub words: usize,
+}
+
+// A flaw, and the place of the byte at which it stands.
+#[derive(Clone, Copy, PartialEq, Eq)]
+pub struct Fault {
+    pub flaw: Flaw,
+    pub place: usize,
+}
+
+impl Fault {
+    // The flaw at this byte.
+    pub fn at(flaw: Flaw, place: usize) -> Fault
+        ensures flaw { result.flaw ≡ flaw }
+        ensures place { result.place ≡ place }
+    {
+        Fault { flaw, place }
+    }
+}
+
+// Why no allocator was written: too few bytes, or a block whose header is no allocator's.
+#[derive(Clone, Copy, PartialEq, Eq)]
+pub enum SaveError {
+    NoRoom,
+    NoState,
+}
+
+// Why no allocator was read: a block that is too short, or what is wrong with the bytes.
+#[derive(Clone, Copy, PartialEq, Eq)]
+pub enum LoadError {
+    NoRoom,
+    Bad(Fault),
+}
+
+impl From<Fault> for LoadError {
+    ghost from_gives = { λ f e. e ≡ Bad f };
+
+    fn from(fault: Fault) -> LoadError {
+        LoadError::Bad(fault)
+    }
 }
 
 // The frame of this kind with which the bytes begin.
-pub fn read(bs: &[u8], kind: u64) -> Opened
+pub fn read(bs: &[u8], kind: u64) -> Result<Opened, Fault>
     ensures { Opens bs.now kind result }
 {
     let all = bs.len() / 8;
     if all < 8 {
-        return Opened::Bad {
-            flaw: Flaw::Short,
-            place: bs.len(),
-        };
+        return Err(Fault::at(Flaw::Short, bs.len()));
     }
     if octets::get(bs, 0) != kind {
-        return Opened::Bad {
-            flaw: Flaw::Kind,
-            place: 0,
-        };
+        return Err(Fault::at(Flaw::Kind, 0));
     }
     if octets::get(bs, 1) != 1 {
-        return Opened::Bad {
-            flaw: Flaw::Version,
-            place: 8,
-        };
+        return Err(Fault::at(Flaw::Version, 8));
     }
     if octets::get(bs, 6) != octets::check(bs, 6) {
-        return Opened::Bad {
-            flaw: Flaw::Check,
-            place: 48,
-        };
+        return Err(Fault::at(Flaw::Check, 48));
     }
     let n = octets::get(bs, 5);
     if ((all - 8) as u64) < n {
-        return Opened::Bad {
-            flaw: Flaw::Short,
-            place: bs.len(),
-        };
+        return Err(Fault::at(Flaw::Short, bs.len()));
     }
     let words = n as usize;
     if octets::get(bs, 7 + words) != octets::check(bs, 7 + words) {
-        return Opened::Bad {
-            flaw: Flaw::Check,
-            place: 8 * (7 + words),
-        };
+        return Err(Fault::at(Flaw::Check, 8 * (7 + words)));
     }
-    Opened::Good {
+    Ok(Opened {
         first: octets::get(bs, 2),
         second: octets::get(bs, 3),
         third: octets::get(bs, 4),
         words,
-    }
-}
-
-fn three(bs: &mut [u8], i: usize, x: u64, j: usize, y: u64, k: usize, z: u64)
-    requires in_bounds { 64 ≤ length bs.old }
-    requires i_lt_j { i < j }
-    requires j_lt_k { j < k }
-    requires k_bound { k < 8 }
-    ensures { Three i x j y k z bs.old bs.new }
-{
-    octets::put(bs, i, x);
-    octets::put(bs, j, y);
-    octets::put(bs, k, z);
+    })
 }
 
 // Word i is the check of those before it.
@@ -140,24 +143,30 @@ fn close(bs: &mut [u8], i: usize)
     octets::put(bs, i, c);
 }
 
-fn seal_in(bs: &mut [u8], kind: u64, a: u64, b: u64, c: u64, n: usize)
-    requires { 8 * (8 + n) ≤ length bs.old }
-    ensures { Seals kind a b c n bs.old bs.new }
+fn seal_in(bs: &mut [u8], kind: u64, numbers: Opened)
+    requires { 8 * (8 + numbers.words) ≤ length bs.old }
+    ensures { Seals kind numbers.first numbers.second numbers.third numbers.words bs.old bs.new }
 {
-    three(bs, 0, kind, 1, 1, 5, n as u64);
-    three(bs, 2, a, 3, b, 4, c);
+    let Opened {
+        first,
+        second,
+        third,
+        words,
+    } = numbers;
+    let head = [kind, 1, first, second, third, words as u64];
+    for (i, x) in head.iter().enumerate() {
+        octets::put(bs, i, *x);
+    }
     close(bs, 6);
-    close(bs, 7 + n);
+    close(bs, 7 + words);
 }
 
-// Puts a frame around the n words from word 7 on. Where there is no room for it, nothing is done.
-pub fn seal(bs: &mut [u8], kind: u64, a: u64, b: u64, c: u64, n: usize)
-    ensures { Seals kind a b c n bs.old bs.new }
+// Puts a frame with these numbers around the words from word 7 on. Where there is no room for it, nothing is done.
+pub fn seal(bs: &mut [u8], kind: u64, numbers: Opened)
+    ensures { Seals kind numbers.first numbers.second numbers.third numbers.words bs.old bs.new }
 {
     let all = bs.len() / 8;
-    if 8 <= all {
-        if n <= all - 8 {
-            seal_in(bs, kind, a, b, c, n);
-        }
+    if 8 <= all && numbers.words <= all - 8 {
+        seal_in(bs, kind, numbers);
     }
 }

@@ -3,126 +3,78 @@
 // Every function is total: any id, any claim and any contents of the block are answered.
 #![tactic(auto)]
 
-ghost use Rattle.std.specs.Prelude.{◌≡◌};
-ghost use Rattle.ranges.specs.Align.{Decides};
 ghost use Rattle.ids.specs.Runs.{Allocate, Release};
 ghost use Rattle.id_audit.specs.Verdicts.{Audits};
 ghost use Rattle.id_audit.specs.Steps.{FollowsGrant, FollowsRelease, Undoes, Settles};
 
-use ids::Answer;
 use ranges::Error;
+use verdict::Verdict;
 
-// What is said of a claim.
-#[derive(Clone, Copy)]
-pub enum Verdict {
-    // it is the answer
-    Right,
-    // it is not: the right answer; the block goes on from the claim
-    Followed(Answer),
-    // it is not: the right answer, and why the block cannot go on from the claim
-    Stayed(Answer, Error),
-}
-
-// Whether the block goes on from a claim, or why not.
-#[derive(Clone, Copy)]
-pub enum Taken {
-    Done,
-    Hindered(Error),
-}
-
-// Whether two answers are the same.
-fn same(a: Answer, b: Answer) -> bool
-    ensures { Decides result (a ≡ b) }
-{
-    match a {
-        Answer::Id(x) => match b {
-            Answer::Id(y) => x == y,
-            Answer::Refused(_) => false,
-        },
-        Answer::Refused(x) => match b {
-            Answer::Id(_) => false,
-            Answer::Refused(y) => x.number() == y.number(),
-        },
-    }
-}
-
-// Goes on from a claimed grant: grants just the claimed id, or, of a refusal, does nothing.
-fn follow_grant(mem: &mut [u64], claim: Answer) -> Taken
+// Goes on from a claimed grant: grants just the claimed id, or, of a refusal, does nothing. Refused where the block cannot go on from it.
+fn follow_grant(mem: &mut [u64], claim: Result<u32, Error>) -> Result<(), Error>
     ensures { FollowsGrant mem.old claim result mem.new }
 {
-    match claim {
-        Answer::Id(id) => {
-            let answer = ids::take(mem, id);
-            match answer {
-                Answer::Id(_) => Taken::Done,
-                Answer::Refused(e) => Taken::Hindered(e),
-            }
-        }
-        Answer::Refused(_) => Taken::Done,
+    if let Ok(id) = claim {
+        ids::take(mem, id)?;
     }
+    Ok(())
 }
 
-// Goes on from a claimed give-back: takes the claimed id back, or, of a refusal, does nothing.
-fn follow_release(mem: &mut [u64], claim: Answer) -> Taken
+// Goes on from a claimed give-back: takes the claimed id back, or, of a refusal, does nothing. Refused where the block cannot go on from it.
+// It differs from `follow_grant` in the call alone; one function over a closure would have to say in clauses what each call does.
+fn follow_release(mem: &mut [u64], claim: Result<u32, Error>) -> Result<(), Error>
     ensures { FollowsRelease mem.old claim result mem.new }
 {
-    match claim {
-        Answer::Id(id) => {
-            let answer = ids::free(mem, id);
-            match answer {
-                Answer::Id(_) => Taken::Done,
-                Answer::Refused(e) => Taken::Hindered(e),
-            }
-        }
-        Answer::Refused(_) => Taken::Done,
+    if let Ok(id) = claim {
+        ids::free(mem, id)?;
     }
+    Ok(())
 }
 
 // Goes back to the state before a give-back's answer.
-fn undo(mem: &mut [u64], answer: Answer)
+fn undo(mem: &mut [u64], answer: Result<u32, Error>)
     ensures { Undoes mem.old answer mem.new }
 {
-    match answer {
-        Answer::Id(id) => {
-            ids::take(mem, id);
-        }
-        Answer::Refused(_) => {}
+    if let Ok(id) = answer {
+        let _ = ids::take(mem, id);
     }
 }
 
 // The verdict on a claimed give-back, once the right answer was given.
-fn settle(mem: &mut [u64], answer: Answer, claim: Answer) -> Verdict
-    ensures { Settles mem.old answer claim result mem.new }
+fn settle(
+    mem: &mut [u64],
+    right: Result<u32, Error>,
+    claim: Result<u32, Error>,
+) -> Verdict<Result<u32, Error>>
+    ensures { Settles mem.old right claim result mem.new }
 {
-    if same(answer, claim) {
+    if right == claim {
         return Verdict::Right;
     }
-    undo(mem, answer);
-    let taken = follow_release(mem, claim);
-    match taken {
-        Taken::Done => Verdict::Followed(answer),
-        Taken::Hindered(e) => Verdict::Stayed(answer, e),
+    undo(mem, right);
+    match follow_release(mem, claim) {
+        Ok(()) => Verdict::Followed(right),
+        Err(e) => Verdict::Stayed(right, e),
     }
 }
 
 // Judges the claimed answer of a request for an id.
-pub fn allocate(mem: &mut [u64], claim: Answer) -> Verdict
+pub fn allocate(mem: &mut [u64], claim: Result<u32, Error>) -> Verdict<Result<u32, Error>>
     ensures { Audits mem.old Allocate claim result mem.new }
 {
     let answer = ids::lowest(mem);
-    if same(answer, claim) {
-        ids::allocate(mem);
+    if answer == claim {
+        let _ = ids::allocate(mem);
         return Verdict::Right;
     }
-    let taken = follow_grant(mem, claim);
-    match taken {
-        Taken::Done => Verdict::Followed(answer),
-        Taken::Hindered(e) => Verdict::Stayed(answer, e),
+    match follow_grant(mem, claim) {
+        Ok(()) => Verdict::Followed(answer),
+        Err(e) => Verdict::Stayed(answer, e),
     }
 }
 
 // Judges the claimed answer of a give-back.
-pub fn free(mem: &mut [u64], id: u32, claim: Answer) -> Verdict
+pub fn free(mem: &mut [u64], id: u32, claim: Result<u32, Error>) -> Verdict<Result<u32, Error>>
     ensures { Audits mem.old (Release id) claim result mem.new }
 {
     let answer = ids::free(mem, id);

@@ -1,5 +1,6 @@
 -- Calls of the functions on one block, one after the other: their answers are those of the definition (`chain_runs`), and so is what is so of them.
 -- Assumes nothing.
+use Rattle.std.proofs.Common.{Ok, Err}
 use mathlib.Core.Path.{◌≡◌, refl, sym, subst}
 use mathlib.Core.Logic.{inl, inr}
 use mathlib.Core.List.{List, [], ◌∷◌}
@@ -8,8 +9,6 @@ use native.Mathlib.Omega.{arith}
 use lib.Dec.{eqb}
 use mathlib.Core.Bool.{Bool, true, false}
 use Rattle.ranges.specs.declared.Error.{Error}
-use Rattle.ids.specs.declared.Answer.TheVariants.{Refused}
-use Rattle.ids.specs.declared.Setup.TheVariants.{Ready}
 use Rattle.ids.specs.State.{State, fresh, exhausted, Frees}
 use Rattle.ids.specs.Runs.{Operation, after, Event, Runs, After}
 use Rattle.ids.specs.Runs.Operation.{Allocate, Release}
@@ -27,7 +26,7 @@ chain_runs m z s (e ∷ es) h c =
     (q.0, (p.0, q.1), q.2)
 
 -- from a block that `new` made, after any calls, the block holds a state of which all of `After` is so
-pub chain_after : (b m z : List ℕ) (low high : ℕ) (es : List Event) → Makes b low high Ready m → Chain m es z
+pub chain_after : (b m z : List ℕ) (low high : ℕ) (es : List Event) → Makes b low high (Ok tt) m → Chain m es z
     → (t : State) × Runs (fresh low high) es t × Holds z t × After low high es t
 chain_after b m z low high es k c =
     let q = chain_runs m z (fresh low high) es k.2 c in
@@ -39,11 +38,11 @@ not_exhausted : (b : Bool) → Error.NoState ≡ exhausted b → ⊥
 not_exhausted true e = let z : ◌≡◌ {A = ℕ} 0 1 = cc (e) in omega arith
 not_exhausted false e = let z : ◌≡◌ {A = ℕ} 0 1 = cc (e) in omega arith
 
-not_frees : (s : State) (i : ℕ) → Frees s i (Refused Error.NoState) → ⊥
+not_frees : (s : State) (i : ℕ) → Frees s i (Err Error.NoState) → ⊥
 not_frees s i (inl p) = let z : ◌≡◌ {A = ℕ} 0 1 = cc p.0 in omega arith
 not_frees s i (inr (inl p)) = let z : ◌≡◌ {A = ℕ} 0 1 = cc p.0 in omega arith
 not_frees s i (inr (inr p)) = let z : ◌≡◌ {A = ℕ} 0 1 = cc p.0 in omega arith
 
-pub no_state_none : (m z : List ℕ) (o : Operation) (s : State) → Performs m o (Refused Error.NoState) z → Holds m s → ⊥
+pub no_state_none : (m z : List ℕ) (o : Operation) (s : State) → Performs m o (Err Error.NoState) z → Holds m s → ⊥
 no_state_none m z Allocate s p h = not_exhausted (eqb s.high (2 ^ 32 - 1)) (p.right s h).0.1
 no_state_none m z (Release i) s p h = not_frees s i (p.right s h).0

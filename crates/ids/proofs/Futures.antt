@@ -4,6 +4,7 @@
 --     history_free         the same, said of two histories from fresh on
 --     runs_some, runs_one  a list of operations has exactly one list of answers
 -- Assumes nothing.
+use Rattle.std.proofs.Common.{Result, Ok, Err}
 use mathlib.Core.Path.{◌≡◌, refl, sym, ap, ap₂, ◌∙◌, subst}
 use mathlib.Core.Logic.{inl, inr, ⊎_elim}
 use mathlib.Core.Bool.{Bool, not, ◌&&◌, ◌||◌}
@@ -12,8 +13,7 @@ use Prim.Native.Nat.{ℕ, ◌+◌, ◌-◌, ◌^◌, ◌≤◌, ◌<◌, max}
 use native.Mathlib.Nat.{le_antisymm}
 use native.Mathlib.Omega.{arith}
 use lib.Dec.{eqb}
-use Rattle.ids.specs.declared.Answer.{Answer}
-use Rattle.ids.specs.declared.Answer.TheVariants.{Id, Refused}
+use Rattle.ranges.specs.declared.Error.{Error}
 use Rattle.ids.specs.State.{State, Within, Free, fresh, exhausted, Allocates, Frees}
 use Rattle.ids.specs.Runs.{Operation, Does, after, Event, event, Runs, Ever, Out, Alike, questions, SameFuture}
 use Rattle.ids.specs.Runs.Operation.{Allocate, Release}
@@ -34,47 +34,47 @@ module _ (s t : State) (a : Alike s t) where
   free_back : (i : ℕ) → Free t i → Free s i
   free_back i f = let w = back i f.0 in (w, a.same_granted i w ∙ f.1)
 
-  allocates_there : (r : Answer) → Allocates s r → Allocates t r
-  allocates_there (Id i) p = (free_there i p.0, λ j f. p.1 j (free_back j f))
-  allocates_there (Refused e) p =
+  allocates_there : (r : Result ℕ Error) → Allocates s r → Allocates t r
+  allocates_there (Ok i) p = (free_there i p.0, λ j f. p.1 j (free_back j f))
+  allocates_there (Err e) p =
       ((λ j f. p.0 j (free_back j f)), p.1 ∙ ap (λ (h : ℕ). exhausted (eqb h (2 ^ 32 - 1))) a.same_high)
 
   -- which ids are granted now settles what `allocate` answers
-  pub allocate_alike : (r q : Answer) → Allocates s r → Allocates t q → r ≡ q
+  pub allocate_alike : (r q : Result ℕ Error) → Allocates s r → Allocates t q → r ≡ q
   allocate_alike r q p k = allocates_one t r q (allocates_there r p) k
 
   module _ (n : s.next ≡ t.next) where
-    frees_there : (i : ℕ) (r : Answer) → Frees s i r → Frees t i r
-    frees_there i (Id k) p = (p.0, there i p.1, omega (arith, p.2), sym (a.same_granted i p.1) ∙ p.3)
-    frees_there i (Refused e) (inl p) = inl (p.0, λ w. p.1 (back i w))
-    frees_there i (Refused e) (inr (inl p)) = inr (inl (p.0, there i p.1, omega (arith, p.2)))
-    frees_there i (Refused e) (inr (inr p)) =
+    frees_there : (i : ℕ) (r : Result ℕ Error) → Frees s i r → Frees t i r
+    frees_there i (Ok k) p = (p.0, there i p.1, omega (arith, p.2), sym (a.same_granted i p.1) ∙ p.3)
+    frees_there i (Err e) (inl p) = inl (p.0, λ w. p.1 (back i w))
+    frees_there i (Err e) (inr (inl p)) = inr (inl (p.0, there i p.1, omega (arith, p.2)))
+    frees_there i (Err e) (inr (inr p)) =
         inr (inr (p.0, there i p.1, omega (arith, p.2), sym (a.same_granted i p.1) ∙ p.3))
 
-    does_there : (o : Operation) (r : Answer) → Does s o r → Does t o r
+    does_there : (o : Operation) (r : Result ℕ Error) → Does s o r → Does t o r
     does_there Allocate r d = allocates_there r d
     does_there (Release i) r d = frees_there i r d
 
     -- the states after one answer are alike again
-    alike_after : (o : Operation) (r : Answer) → Alike (after s o r) (after t o r)
-    alike_after Allocate (Id i) = record {
+    alike_after : (o : Operation) (r : Result ℕ Error) → Alike (after s o r) (after t o r)
+    alike_after Allocate (Ok i) = record {
       same_low = a.same_low;
       same_high = a.same_high;
       same_granted = λ j w. ap (λ (b : Bool). eqb j i || b) (a.same_granted j w);
     }
-    alike_after Allocate (Refused e) = a
-    alike_after (Release k) (Id i) = record {
+    alike_after Allocate (Err e) = a
+    alike_after (Release k) (Ok i) = record {
       same_low = a.same_low;
       same_high = a.same_high;
       same_granted = λ j w. ap (λ (b : Bool). not (eqb j i) && b) (a.same_granted j w);
     }
-    alike_after (Release k) (Refused e) = a
+    alike_after (Release k) (Err e) = a
 
-    next_after : (o : Operation) (r : Answer) → (after s o r).next ≡ (after t o r).next
-    next_after Allocate (Id i) = ap (λ (x : ℕ). max x (i + 1)) n
-    next_after Allocate (Refused e) = n
-    next_after (Release k) (Id i) = n
-    next_after (Release k) (Refused e) = n
+    next_after : (o : Operation) (r : Result ℕ Error) → (after s o r).next ≡ (after t o r).next
+    next_after Allocate (Ok i) = ap (λ (x : ℕ). max x (i + 1)) n
+    next_after Allocate (Err e) = n
+    next_after (Release k) (Ok i) = n
+    next_after (Release k) (Err e) = n
 
 -- the first of two lists of operations, and the rest
 first_asked : (o p : Operation) (os ps : List Operation) → o ∷ os ≡ p ∷ ps → (o ≡ p) × (os ≡ ps)
@@ -156,5 +156,5 @@ module _ (low high : ℕ) (h : low ≤ high) (es fs : List Event) (s t : State) 
   history_free o e = same_future s t (alike o) (same_next e)
 
   -- for `allocate` alone the ids that are out are enough
-  pub allocate_history_free : ((i : ℕ) → (Out es i → Out fs i) × (Out fs i → Out es i)) → (x y : Answer) → Allocates s x → Allocates t y → x ≡ y
+  pub allocate_history_free : ((i : ℕ) → (Out es i → Out fs i) × (Out fs i → Out es i)) → (x y : Result ℕ Error) → Allocates s x → Allocates t y → x ≡ y
   allocate_history_free o x y p k = allocate_alike s t (alike o) x y p k

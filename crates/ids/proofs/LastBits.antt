@@ -1,34 +1,54 @@
--- What `last_bit` says of a block of which it finds the last bit, and `find` then of the free ids: what the proofs of the public functions share.
---     bit_header      the header is an id allocator's
---     bit_last        the last bit of a state that the block holds
---     bit_no_free     where no bit is zero, no id is free
+-- What `header` says of a block, and `find` then of the free ids: what the proofs of the public functions share.
+--     none_held, none_got    a block without a header holds no state
+--     head_of, head_got      the header of a block that has one
+--     head_low, head_high, head_next, head_last     a state that the block holds has the header's words
+--     head_no_free           where no bit is zero, no id is free
 -- Assumes nothing.
-use mathlib.Core.Path.{◌≡◌, ap₂, ◌∙◌, subst}
+use Rattle.std.proofs.Common.{Option, Some, None, Result, Ok, Err}
+use mathlib.Core.Path.{◌≡◌, ap, ap₂, ◌∙◌, subst}
 use mathlib.Core.List.{List}
 use Prim.Native.Nat.{ℕ, ◌-◌, ◌<◌}
 use native.Mathlib.Omega.{arith}
-use lib.ListN.{length, get_or}
+use lib.ListN.{length}
 use borrow.Rule.Slice.PartMut.{mid_of}
 use Rattle.bits.specs.Bits.{Summed, Lowest}
-use Rattle.ids.specs.declared.Last.{Last}
-use Rattle.ids.specs.declared.Last.TheVariants.{Bit}
+use Rattle.std.specs.Result.{result_ok}
+use Rattle.ranges.specs.declared.Error.{Error}
+use Rattle.ids.specs.declared.Header.{Header}
 use Rattle.ids.specs.State.{State, Free}
-use Rattle.ids.specs.Layout.{Headed, LastBit, Laid}
+use Rattle.ids.specs.Layout.{HeadOf, Heads, Laid}
 use Rattle.ids.proofs.States.{no_free, found}
 
-module _ (m : List ℕ) (r : Last) (l : ℕ) (is : r ≡ Bit l) (said : LastBit (get_or m 0 0) (get_or m 1 0) (get_or m 2 0) (length m - 4) r) where
-  -- the header is an id allocator's, and l is the place of its last bit
-  pub bit_header : Headed (get_or m 0 0) (get_or m 1 0) (get_or m 2 0) (length m - 4) × (l ≡ get_or m 2 0 - get_or m 1 0)
-  bit_header = subst (LastBit (get_or m 0 0) (get_or m 1 0) (get_or m 2 0) (length m - 4)) is said
+pub none_held : (m : List ℕ) (r : Option Header) → r ≡ None → Heads m r → (s : State) → Laid m s → ⊥
+none_held m r q b s h = subst (Heads m) q b h.long (rw (h.low, h.high) h.head)
 
-  -- the last bit of a state that the block holds
-  pub bit_last : (s : State) → Laid m s → l ≡ s.high - s.low
-  bit_last s h = bit_header.1 ∙ ap₂ (λ (a b : ℕ). a - b) h.high h.low
+pub head_of : (m : List ℕ) (r : Option Header) (h : Header) → r ≡ Some h → Heads m r → HeadOf m h
+head_of m r h q b = subst (Heads m) q b
 
-  -- `find` finds no zero bit: every id is granted
-  pub bit_no_free : (s : State) → Laid m s → (i : ℕ)
-      → ((d : ℕ) → Summed d (mid_of 4 (length m - 4) m) l → Lowest (mid_of 4 (length m - 4) m) l i)
-      → l < i → (j : ℕ) → Free s j → ⊥
-  bit_no_free s h i f lt =
-      let e = bit_last s h in
-      no_free m s h i (found m s h l i e f) (omega (arith, e, lt))
+-- the same where the code passes its absence on as an error
+pub none_got : (m : List ℕ) (r : Option Header) (x : Result Header Error) (e : Error) → r ≡ result_ok x → x ≡ Err e → Heads m r → (s : State) → Laid m s → ⊥
+none_got m r x e p q = none_held m r (p ∙ ap result_ok q)
+
+pub head_got : (m : List ℕ) (r : Option Header) (x : Result Header Error) (h : Header) → r ≡ result_ok x → x ≡ Ok h → Heads m r → HeadOf m h
+head_got m r x h p q = head_of m r h (p ∙ ap result_ok q)
+
+module _ (m : List ℕ) (h : Header) (d : HeadOf m h) where
+  module _ (s : State) (l : Laid m s) where
+    pub head_low : h.low ≡ s.low
+    head_low = d.low ∙ l.low
+
+    pub head_high : h.high ≡ s.high
+    head_high = d.high ∙ l.high
+
+    pub head_next : h.next ≡ s.next
+    head_next = d.next ∙ l.next
+
+    -- the last bit of a state that the block holds
+    pub head_last : h.last ≡ s.high - s.low
+    head_last = d.last ∙ ap₂ (λ (a b : ℕ). a - b) head_high head_low
+
+    -- `find` finds no zero bit: every id is granted
+    pub head_no_free : (i : ℕ)
+        → ((e : ℕ) → Summed e (mid_of 4 (length m - 4) m) h.last → Lowest (mid_of 4 (length m - 4) m) h.last i)
+        → h.last < i → (j : ℕ) → Free s j → ⊥
+    head_no_free i f lt = no_free m s l i (found m s l h.last i head_last f) (omega (arith, head_last, lt))

@@ -1,6 +1,7 @@
 -- Ledger as the Rust keeps it, no id is handed out twice where free tests that the id lies below next (`ledger_never_twice`); with the test that the Rust had,
 -- that it does not lie above next, one is (`old_twice`).
 -- Assumes nothing.
+use Rattle.std.proofs.Common.{Ok}
 use mathlib.Core.Path.{◌≡◌, refl, sym, ap, ◌∙◌, subst}
 use mathlib.Core.Logic.{◌⊎◌, inl, inr, ⊎_elim}
 use mathlib.Core.Bool.{Bool, true, false, not, ◌&&◌, ◌||◌}
@@ -10,7 +11,6 @@ use native.Mathlib.Omega.{arith}
 use borrow.Author.Tests.{eqb-true, eq-eqb, ne_eqb}
 use lib.Dec.{eqb}
 use Rattle.bits.proofs.Levels.{same?}
-use Rattle.ids.specs.declared.Answer.TheVariants.{Id}
 use Rattle.ids.specs.Runs.{Event, event, Grants, Returns}
 use Rattle.ids.specs.Runs.Operation.{Allocate, Release}
 use Rattle.ids.specs.NeverTwice.{GivenBack, NeverTwice}
@@ -65,7 +65,7 @@ stays_away x a (again {k} {i} b) = inr (a.0, and_false (eqb x i) (k.back x) a.1)
 stays_away x a (first {k} n) = inr (omega (arith, a.0), a.1)
 stays_away x a (freed {k} {i} t b) =
     ⊎_elim
-    (λ (q : x ≡ i). inl (ap Release (sym q), ap Id (sym q)))
+    (λ (q : x ≡ i). inl (ap Release (sym q), ap Ok (sym q)))
     (λ (n : x ≡ i → ⊥). inr (a.0, or_false (eqb x i) (k.back x) (ne_eqb x i n) a.1))
     (same? x i)
 stays_away x a refused = inr a
@@ -87,7 +87,7 @@ ledger_never_twice low es r before between behind d e i q x y =
 
 -- the sequence of the fault: 5 is given back before its grant, and then granted twice
 abbrev fault : List Event
-fault = event (Release 5) (Id 5) ∷ event Allocate (Id 5) ∷ event Allocate (Id 5) ∷ []
+fault = event (Release 5) (Ok 5) ∷ event Allocate (Ok 5) ∷ event Allocate (Ok 5) ∷ []
 
 out_again : (b : Bool) → not b && (b || false) ≡ false
 out_again true = refl
@@ -97,5 +97,5 @@ pub old_twice : Turns NotAbove (start 5) fault × (NeverTwice fault → ⊥)
 unfolding NeverTwice GivenBack
 old_twice = (
   more (freed {k = start 5} {i = 5} (omega arith) refl) (more (again {i = 5} refl) (more (first (λ j. out_again (eqb j 5))) none)),
-  λ n. n (event (Release 5) (Id 5) ∷ []) [] [] (event Allocate (Id 5)) (event Allocate (Id 5)) 5 refl (refl, refl) (refl, refl),
+  λ n. n (event (Release 5) (Ok 5) ∷ []) [] [] (event Allocate (Ok 5)) (event Allocate (Ok 5)) 5 refl (refl, refl) (refl, refl),
 )

@@ -1,6 +1,7 @@
 -- Every run of the definition is one of the allocator as the Rust keeps it, with our test in free (`runs_ledger`): the definition's marks say of the ids below
 -- next which are back.
 -- Assumes nothing.
+use Rattle.std.proofs.Common.{Result, Ok, Err}
 use mathlib.Core.Path.{◌≡◌, refl, sym, ap, ◌∙◌, subst}
 use mathlib.Core.Logic.{◌⊎◌, inl, inr, ⊎_elim}
 use mathlib.Core.Bool.{Bool, true, false, not, ◌&&◌, ◌||◌}
@@ -10,8 +11,7 @@ use native.Mathlib.Omega.{arith}
 use borrow.Author.Tests.{eqb-true, eq-eqb}
 use lib.Dec.{eqb}
 use Rattle.bits.proofs.Levels.{same?}
-use Rattle.ids.specs.declared.Answer.{Answer}
-use Rattle.ids.specs.declared.Answer.TheVariants.{Id, Refused}
+use Rattle.ranges.specs.declared.Error.{Error}
 use Rattle.ids.specs.State.{State, fresh, Allocates, Frees}
 use Rattle.ids.specs.Runs.{Operation, Does, after, Event, event, Runs, Valid}
 use Rattle.ids.specs.Runs.Operation.{Allocate, Release}
@@ -38,16 +38,16 @@ without true b e = inl refl
 without false b e = inr e
 
 -- what a step of the definition is
-abbrev Step : State → Ledger → Operation → Answer → Type 0
+abbrev Step : State → Ledger → Operation → Result ℕ Error → Type 0
 Step s k o r = (l : Ledger) × Turn Before k (event o r) l × As (after s o r) l
 
 -- an id that was given back is granted again
-grant_again : (s : State) (k : Ledger) (i : ℕ) → As s k → Allocates s (Id i) → i < s.next → Step s k Allocate (Id i)
+grant_again : (s : State) (k : Ledger) (i : ℕ) → As s k → Allocates s (Ok i) → i < s.next → Step s k Allocate (Ok i)
 grant_again s k i a d h = (
   record { next = k.next; back = λ j. not (eqb j i) && k.back j },
   again (a.all i d.0.0.0 h d.0.1),
   record {
-    valid = valid_allocated s (Id i) a.valid d;
+    valid = valid_allocated s (Ok i) a.valid d;
     next = omega (arith, a.next);
     back = λ j b.
         let w = a.back j (and_true (not (eqb j i)) (k.back j) b) in
@@ -59,15 +59,15 @@ grant_again s k i a d h = (
 )
 
 -- the next id is granted
-grant_next : (s : State) (k : Ledger) (i : ℕ) → As s k → Allocates s (Id i) → i ≡ s.next → Step s k Allocate (Id i)
+grant_next : (s : State) (k : Ledger) (i : ℕ) → As s k → Allocates s (Ok i) → i ≡ s.next → Step s k Allocate (Ok i)
 grant_next s k i a d e =
     let empty : (j : ℕ) → k.back j ≡ false = λ j. not_true (k.back j) (λ b.
     let w = a.back j b in omega (arith, w.1, d.1 j ((w.0, omega (arith, w.1, a.valid.to_high)), w.2))) in
     let l : Ledger = record { next = k.next + 1; back = k.back } in (
       l,
-      subst (λ (x : ℕ). Turn Before k (event Allocate (Id x)) l) (a.next ∙ sym e) (first empty),
+      subst (λ (x : ℕ). Turn Before k (event Allocate (Ok x)) l) (a.next ∙ sym e) (first empty),
       record {
-        valid = valid_allocated s (Id i) a.valid d;
+        valid = valid_allocated s (Ok i) a.valid d;
         next = omega (arith, a.next);
         back = λ j b. absurd (false_true (k.back j) (empty j) b);
         all = λ j l m g.
@@ -80,7 +80,7 @@ grant_next s k i a d e =
     )
 
 -- an id is given back
-give_back : (s : State) (k : Ledger) (i x : ℕ) → As s k → Frees s i (Id x) → Step s k (Release i) (Id x)
+give_back : (s : State) (k : Ledger) (i x : ℕ) → As s k → Frees s i (Ok x) → Step s k (Release i) (Ok x)
 give_back s k i x a d =
     let l : Ledger = record { next = k.next; back = λ j. eqb j x || k.back j } in
     let low : s.low ≤ x = omega (arith, d.0, d.1.0) in
@@ -88,9 +88,9 @@ give_back s k i x a d =
     let was : s.granted x ≡ true = ap s.granted d.0 ∙ d.3 in
     let out : k.back x ≡ false = not_true (k.back x) (λ b. false_true (s.granted x) (a.back x b).2 was) in (
       l,
-      subst (λ (y : ℕ). Turn Before k (event (Release y) (Id x)) l) d.0 (freed below out),
+      subst (λ (y : ℕ). Turn Before k (event (Release y) (Ok x)) l) d.0 (freed below out),
       record {
-        valid = valid_freed s i (Id x) a.valid d;
+        valid = valid_freed s i (Ok x) a.valid d;
         next = a.next;
         back = λ j b.
             ⊎_elim
@@ -105,15 +105,15 @@ give_back s k i x a d =
       },
     )
 
-step : (s : State) (k : Ledger) (o : Operation) (r : Answer) → As s k → Does s o r → Step s k o r
-step s k Allocate (Id i) a d =
+step : (s : State) (k : Ledger) (o : Operation) (r : Result ℕ Error) → As s k → Does s o r → Step s k o r
+step s k Allocate (Ok i) a d =
     ⊎_elim
     (λ (h : s.next ≤ i). grant_next s k i a d (let m = at_most_next s i a.valid d in let e : i ≡ s.next = omega arith in e))
     (λ (h : i < s.next). grant_again s k i a d h)
     (order s.next i)
-step s k Allocate (Refused e) a d = (k, refused, a)
-step s k (Release i) (Id x) a d = give_back s k i x a d
-step s k (Release i) (Refused e) a d = (k, refused, a)
+step s k Allocate (Err e) a d = (k, refused, a)
+step s k (Release i) (Ok x) a d = give_back s k i x a d
+step s k (Release i) (Err e) a d = (k, refused, a)
 
 turns : (s t : State) (k : Ledger) (es : List Event) → As s k → Runs s es t → Turns Before k es
 unfolding Runs

@@ -1,13 +1,14 @@
 -- The states that operations lead to are the valid ones, and no others: `reached_valid` and `valid_reached`. A valid state is reached by as many
 -- grants as there are ids below next, and then by giving back what is not granted.
 -- Assumes nothing.
+use Rattle.std.proofs.Common.{Result, Ok}
+use Rattle.ranges.specs.declared.Error.{Error}
 use mathlib.Core.Path.{◌≡◌, refl, sym, ap, ap₂, ◌∙◌, subst, fun_ext}
 use mathlib.Core.Logic.{◌⊎◌, inl, inr, ⊎_elim}
 use mathlib.Core.Bool.{Bool, true, false}
 use mathlib.Core.List.{List, [], ◌∷◌, ◌++◌}
 use Prim.Native.Nat.{ℕ, zero, suc, ◌+◌, ◌-◌, ◌≤◌, ◌<◌}
 use native.Mathlib.Omega.{arith}
-use Rattle.ids.specs.declared.Answer.TheVariants.{Id}
 use Rattle.ids.specs.State.{State, Free, fresh, grant, release, Allocates, Frees}
 use Rattle.ids.specs.Runs.{after, Event, event, Runs, Reached, Valid}
 use Rattle.ids.specs.Runs.Operation.{Allocate, Release}
@@ -65,23 +66,23 @@ module _ (s : State) (v : Valid s) where
       let off : m.granted b ≡ false = not_true (m.granted b) (λ g. omega (arith, (w.only b g).1)) in
       let first : (j : ℕ) → Free m j → b ≤ j =
       λ j f. ⊎_elim (λ (k : b ≤ j). k) (λ (k : j < b). absurd (false_true (m.granted j) f.1 (w.all j (omega (arith, f.0.0, w.same_low)) k))) (order b j) in
-      let d : Allocates m (Id b) = (((omega (arith, w.same_low), omega (arith, w.same_high)), off), first) in
+      let d : Allocates m (Ok b) = (((omega (arith, w.same_low), omega (arith, w.same_high)), off), first) in
       record {
         at = grant m b;
-        events = w.events ++ (event Allocate (Id b) ∷ []);
-        come = runs_more (fresh s.low s.high) m (grant m b) w.events (event Allocate (Id b)) w.come (d, refl);
+        events = w.events ++ (event Allocate (Ok b) ∷ []);
+        come = runs_more (fresh s.low s.high) m (grant m b) w.events (event Allocate (Ok b)) w.come (d, refl);
         same_low = w.same_low;
         same_high = w.same_high;
         next_is = omega (arith, w.next_is);
         all = λ j p q. ⊎_elim
-            (λ (k : j < b). step_back m Allocate (Id b) j d (inr (w.all j p k, λ z. absurd (let y : ◌≡◌ {A = ℕ} 0 1 = cc z.0 in omega arith))))
-            (λ (k : b ≤ j). let e : b ≡ j = omega arith in step_back m Allocate (Id b) j d (inl (refl, ap Id e)))
+            (λ (k : j < b). step_back m Allocate (Ok b) j d (inr (w.all j p k, λ z. absurd (let y : ◌≡◌ {A = ℕ} 0 1 = cc z.0 in omega arith))))
+            (λ (k : b ≤ j). let e : b ≡ j = omega arith in step_back m Allocate (Ok b) j d (inl (refl, ap Ok e)))
             (⊎_elim (λ (k : b ≤ j). inr k) (λ (k : j < b). inl k) (order b j));
         wanted = λ j p g. absurd (omega (arith, (v.below j g).0));
         only = λ j g. ⊎_elim
             (λ z. let e : b ≡ j = cc z.1 in (omega arith, omega arith, inl (omega arith)))
             (λ z. let o = w.only j z.0 in (o.0, omega (arith, o.1), inl o.0))
-            (step_true m Allocate (Id b) j d g);
+            (step_true m Allocate (Ok b) j d g);
       }
 
   -- one id more is as in s: it stays, or is given back
@@ -109,20 +110,20 @@ module _ (s : State) (v : Valid s) where
   unfolding Runs
   gives a l h w f =
       let m = w.at in
-      let d : Frees m a (Id a) = (refl, (omega (arith, w.same_low), omega (arith, w.same_high, v.to_high)), omega (arith, w.next_is), w.all a (omega arith) h) in
-      let apart : (j : ℕ) → (j ≡ a → ⊥) → ((Release a ≡ Release j) × (Id a ≡ Id j)) → ⊥ = λ j n z. n (let e : a ≡ j = cc z.1 in sym e) in
+      let d : Frees m a (Ok a) = (refl, (omega (arith, w.same_low), omega (arith, w.same_high, v.to_high)), omega (arith, w.next_is), w.all a (omega arith) h) in
+      let apart : (j : ℕ) → (j ≡ a → ⊥) → ((Release a ≡ Release j) × (◌≡◌ {A = Result ℕ Error} (Ok a) (Ok j))) → ⊥ = λ j n z. n (let e : a ≡ j = cc z.1 in sym e) in
       record {
         at = release m a;
-        events = w.events ++ (event (Release a) (Id a) ∷ []);
-        come = runs_more (fresh s.low s.high) m (release m a) w.events (event (Release a) (Id a)) w.come (d, refl);
+        events = w.events ++ (event (Release a) (Ok a) ∷ []);
+        come = runs_more (fresh s.low s.high) m (release m a) w.events (event (Release a) (Ok a)) w.come (d, refl);
         same_low = w.same_low;
         same_high = w.same_high;
         next_is = w.next_is;
-        all = λ j p q. step_back m (Release a) (Id a) j d (inr (w.all j (omega arith) q, apart j (λ e. omega arith)));
+        all = λ j p q. step_back m (Release a) (Ok a) j d (inr (w.all j (omega arith) q, apart j (λ e. omega arith)));
         wanted = λ j p k.
             let n : j ≡ a → ⊥ = λ e. false_true (s.granted a) f (ap s.granted (sym e) ∙ k) in
             let i : j < a = ⊎_elim (λ (x : a ≤ j). absurd (n (omega arith))) (λ x. x) (order a j) in
-            step_back m (Release a) (Id a) j d (inr (w.wanted j i k, apart j n));
+            step_back m (Release a) (Ok a) j d (inr (w.wanted j i k, apart j n));
         only = λ j k. ⊎_elim
             (λ z. absurd (let y : ◌≡◌ {A = ℕ} 0 1 = cc z.0 in omega arith))
             (λ z.
@@ -132,12 +133,12 @@ module _ (s : State) (v : Valid s) where
               ⊎_elim
                   (λ (x : a ≤ j). ⊎_elim
                   (λ (y : a + 1 ≤ j). inl y)
-                  (λ (y : j < a + 1). let e : a ≡ j = omega arith in absurd (z.1 (ap Release e, ap Id e)))
+                  (λ (y : j < a + 1). let e : a ≡ j = omega arith in absurd (z.1 (ap Release e, ap Ok e)))
                   (order (a + 1) j))
                   (λ x. inr x)
                   o.2,
             ))
-            (step_true m (Release a) (Id a) j d k);
+            (step_true m (Release a) (Ok a) j d k);
       }
 
   settled : (a : ℕ) → s.low ≤ a → a < s.next → Way a s.next → Way (a + 1) s.next

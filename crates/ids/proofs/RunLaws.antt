@@ -3,6 +3,7 @@
 --     out_true, out_back        granted is what was handed out and not given back since
 --     ever_below, below_ever    the ids below next are those that were ever handed out
 -- Assumes nothing.
+use Rattle.std.proofs.Common.{Result, Ok, Err}
 use mathlib.Core.Path.{◌≡◌, refl, sym, ap, ◌∙◌, subst}
 use mathlib.Core.Logic.{◌⊎◌, inl, inr, ⊎_elim}
 use mathlib.Core.Bool.{true, false, not}
@@ -11,8 +12,7 @@ use Prim.Native.Nat.{ℕ, ◌≤◌, ◌<◌}
 use native.Mathlib.Omega.{arith}
 use borrow.Author.Tests.{eqb-true, eq-eqb, ne_eqb}
 use lib.Dec.{eqb}
-use Rattle.ids.specs.declared.Answer.{Answer}
-use Rattle.ids.specs.declared.Answer.TheVariants.{Id, Refused}
+use Rattle.ranges.specs.declared.Error.{Error}
 use Rattle.ids.specs.State.{State, fresh, Allocates}
 use Rattle.ids.specs.Runs.{Operation, Does, after, Event, Runs, Grants, Ever, Stays, Out, Valid, After}
 use Rattle.ids.specs.Runs.Operation.{Allocate, Release}
@@ -30,11 +30,11 @@ runs_split s t (e ∷ xs) ys r =
 
 -- ---- the interval stays
 
-after_interval : (s : State) (o : Operation) (r : Answer) → ((after s o r).low ≡ s.low) × ((after s o r).high ≡ s.high)
-after_interval s Allocate (Id i) = (refl, refl)
-after_interval s Allocate (Refused e) = (refl, refl)
-after_interval s (Release k) (Id i) = (refl, refl)
-after_interval s (Release k) (Refused e) = (refl, refl)
+after_interval : (s : State) (o : Operation) (r : Result ℕ Error) → ((after s o r).low ≡ s.low) × ((after s o r).high ≡ s.high)
+after_interval s Allocate (Ok i) = (refl, refl)
+after_interval s Allocate (Err e) = (refl, refl)
+after_interval s (Release k) (Ok i) = (refl, refl)
+after_interval s (Release k) (Err e) = (refl, refl)
 
 pub runs_interval : (s t : State) (es : List Event) → Runs s es t → (t.low ≡ s.low) × (t.high ≡ s.high)
 unfolding Runs
@@ -46,7 +46,7 @@ runs_interval s t (e ∷ es) r =
 
 -- ---- every state on the way is valid
 
-valid_after : (s : State) (o : Operation) (r : Answer) → Valid s → Does s o r → Valid (after s o r)
+valid_after : (s : State) (o : Operation) (r : Result ℕ Error) → Valid s → Does s o r → Valid (after s o r)
 valid_after s Allocate r h d = valid_allocated s r h d
 valid_after s (Release i) r h d = valid_freed s i r h d
 
@@ -59,17 +59,17 @@ valid_runs s t (e ∷ es) h r =
 -- ---- what is granted was handed out and not given back since
 
 -- id i is granted after the event because the event hands it out, or because it was and the event does not give it back
-abbrev Remains : State → Operation → Answer → ℕ → Type 0
-Remains s o r i = ((o ≡ Allocate) × (r ≡ Id i)) ⊎ ((s.granted i ≡ true) × (((o ≡ Release i) × (r ≡ Id i)) → ⊥))
+abbrev Remains : State → Operation → Result ℕ Error → ℕ → Type 0
+Remains s o r i = ((o ≡ Allocate) × (r ≡ Ok i)) ⊎ ((s.granted i ≡ true) × (((o ≡ Release i) × (r ≡ Ok i)) → ⊥))
 
-pub step_true : (s : State) (o : Operation) (r : Answer) (i : ℕ) → Does s o r → (after s o r).granted i ≡ true → Remains s o r i
-step_true s Allocate (Id k) i d g =
+pub step_true : (s : State) (o : Operation) (r : Result ℕ Error) (i : ℕ) → Does s o r → (after s o r).granted i ≡ true → Remains s o r i
+step_true s Allocate (Ok k) i d g =
     ⊎_elim
-    (λ (q : eqb i k ≡ true). inl (refl, ap Id (sym (eqb-true i k q))))
+    (λ (q : eqb i k ≡ true). inl (refl, ap Ok (sym (eqb-true i k q))))
     (λ (q : s.granted i ≡ true). inr (q, λ z. allocate_release i z.0))
     (or_true (eqb i k) (s.granted i) g)
-step_true s Allocate (Refused e) i d g = inr (g, λ z. allocate_release i z.0)
-step_true s (Release k) (Id l) i d g =
+step_true s Allocate (Err e) i d g = inr (g, λ z. allocate_release i z.0)
+step_true s (Release k) (Ok l) i d g =
     inr (
       and_true (not (eqb i l)) (s.granted i) g,
       λ z.
@@ -78,19 +78,19 @@ step_true s (Release k) (Id l) i d g =
           let x : ◌≡◌ {A = ℕ} 0 1 = cc (n, y) in
           omega arith,
     )
-step_true s (Release k) (Refused e) i d g = inr (g, λ z. not_refused i z.1)
+step_true s (Release k) (Err e) i d g = inr (g, λ z. not_refused i z.1)
 
-pub step_back : (s : State) (o : Operation) (r : Answer) (i : ℕ) → Does s o r → Remains s o r i → (after s o r).granted i ≡ true
-step_back s Allocate (Id k) i d (inl q) = or_left (eqb i k) (s.granted i) (eq-eqb i k (sym (same_id k i q.1)))
-step_back s Allocate (Id k) i d (inr q) = or_right (eqb i k) (s.granted i) q.0
-step_back s Allocate (Refused e) i d (inl q) = not_refused i q.1
-step_back s Allocate (Refused e) i d (inr q) = q.0
-step_back s (Release k) (Id l) i d (inl q) = release_allocate k q.0
-step_back s (Release k) (Id l) i d (inr q) =
+pub step_back : (s : State) (o : Operation) (r : Result ℕ Error) (i : ℕ) → Does s o r → Remains s o r i → (after s o r).granted i ≡ true
+step_back s Allocate (Ok k) i d (inl q) = or_left (eqb i k) (s.granted i) (eq-eqb i k (sym (same_id k i q.1)))
+step_back s Allocate (Ok k) i d (inr q) = or_right (eqb i k) (s.granted i) q.0
+step_back s Allocate (Err e) i d (inl q) = not_refused i q.1
+step_back s Allocate (Err e) i d (inr q) = q.0
+step_back s (Release k) (Ok l) i d (inl q) = release_allocate k q.0
+step_back s (Release k) (Ok l) i d (inr q) =
     and_both (eqb i l) (s.granted i)
-    (ne_eqb i l (λ z. q.1 (ap Release (sym d.0 ∙ sym z), ap Id (sym z)))) q.0
-step_back s (Release k) (Refused e) i d (inl q) = release_allocate k q.0
-step_back s (Release k) (Refused e) i d (inr q) = q.0
+    (ne_eqb i l (λ z. q.1 (ap Release (sym d.0 ∙ sym z), ap Ok (sym z)))) q.0
+step_back s (Release k) (Err e) i d (inl q) = release_allocate k q.0
+step_back s (Release k) (Err e) i d (inr q) = q.0
 
 pub out_true : (s t : State) (es : List Event) (i : ℕ) → Runs s es t → t.granted i ≡ true → Out es i ⊎ ((s.granted i ≡ true) × Stays es i)
 unfolding Runs Out Stays
@@ -118,11 +118,11 @@ out_back s t (e ∷ es) i r (inr g) =
 -- ---- the ids below next are those that were ever handed out
 
 -- next never falls
-next_up : (s : State) (o : Operation) (r : Answer) → s.next ≤ (after s o r).next
-next_up s Allocate (Id i) = omega arith
-next_up s Allocate (Refused e) = omega arith
-next_up s (Release k) (Id i) = omega arith
-next_up s (Release k) (Refused e) = omega arith
+next_up : (s : State) (o : Operation) (r : Result ℕ Error) → s.next ≤ (after s o r).next
+next_up s Allocate (Ok i) = omega arith
+next_up s Allocate (Err e) = omega arith
+next_up s (Release k) (Ok i) = omega arith
+next_up s (Release k) (Err e) = omega arith
 
 pub runs_up : (s t : State) (es : List Event) → Runs s es t → s.next ≤ t.next
 unfolding Runs
@@ -133,9 +133,9 @@ runs_up s t (e ∷ es) r =
     omega arith
 
 -- an id that an event hands out lies in the interval and below the next one
-grant_below : (s : State) (o : Operation) (r : Answer) (i : ℕ) → Does s o r → o ≡ Allocate → r ≡ Id i → (s.low ≤ i) × (i < (after s o r).next)
-grant_below s Allocate (Id k) i d p q = let e : k ≡ i = same_id k i q in (omega (arith, d.0.0.0), omega arith)
-grant_below s Allocate (Refused e) i d p q = not_refused i q
+grant_below : (s : State) (o : Operation) (r : Result ℕ Error) (i : ℕ) → Does s o r → o ≡ Allocate → r ≡ Ok i → (s.low ≤ i) × (i < (after s o r).next)
+grant_below s Allocate (Ok k) i d p q = let e : k ≡ i = same_id k i q in (omega (arith, d.0.0.0), omega arith)
+grant_below s Allocate (Err e) i d p q = not_refused i q
 grant_below s (Release k) r i d p q = release_allocate k p
 
 pub ever_below : (s t : State) (es : List Event) (i : ℕ) → Runs s es t → Ever es i → (s.low ≤ i) × (i < t.next)
@@ -150,12 +150,12 @@ ever_below s t (e ∷ es) i r (inr v) =
     (omega (arith, b.0, (after_interval s e.asked e.answer).0), b.1)
 
 -- an event that passes an id hands it out
-passed : (s : State) (o : Operation) (r : Answer) (i : ℕ) → Valid s → Does s o r → s.next ≤ i → i < (after s o r).next
-    → (o ≡ Allocate) × (r ≡ Id i)
-passed s Allocate (Id k) i h d a b = let m = at_most_next s k h d in let e : k ≡ i = omega arith in (refl, ap Id e)
-passed s Allocate (Refused e) i h d a b = absurd (omega arith)
-passed s (Release k) (Id l) i h d a b = absurd (omega arith)
-passed s (Release k) (Refused e) i h d a b = absurd (omega arith)
+passed : (s : State) (o : Operation) (r : Result ℕ Error) (i : ℕ) → Valid s → Does s o r → s.next ≤ i → i < (after s o r).next
+    → (o ≡ Allocate) × (r ≡ Ok i)
+passed s Allocate (Ok k) i h d a b = let m = at_most_next s k h d in let e : k ≡ i = omega arith in (refl, ap Ok e)
+passed s Allocate (Err e) i h d a b = absurd (omega arith)
+passed s (Release k) (Ok l) i h d a b = absurd (omega arith)
+passed s (Release k) (Err e) i h d a b = absurd (omega arith)
 
 pub below_ever : (s t : State) (es : List Event) (i : ℕ) → Valid s → Runs s es t → s.next ≤ i → i < t.next → Ever es i
 unfolding Runs Ever
@@ -183,7 +183,7 @@ granted_before : (low high : ℕ) (es before rest : List Event) (e : Event) (i :
 unfolding Runs
 granted_before low high es before rest e i t r q g o =
     let c = runs_split (fresh low high) t before (e ∷ rest) (subst (λ (l : List Event). Runs (fresh low high) l t) q r) in
-    let d : Allocates c.0 (Id i) = subst (λ (x : Operation). Does c.0 x (Id i)) g.0 (subst (λ (x : Answer). Does c.0 e.asked x) g.1 c.2.0) in
+    let d : Allocates c.0 (Ok i) = subst (λ (x : Operation). Does c.0 x (Ok i)) g.0 (subst (λ (x : Result ℕ Error). Does c.0 e.asked x) g.1 c.2.0) in
     false_true (c.0.granted i) d.0.1 (out_granted low high before c.0 c.1 i o)
 
 pub after_runs : (low high : ℕ) (es : List Event) (t : State) → low ≤ high → Runs (fresh low high) es t → After low high es t

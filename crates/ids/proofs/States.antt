@@ -2,6 +2,7 @@
 --     no_free, least_free           the two answers of `find`
 --     laid_grant, laid_release    the memory after a grant and after a release
 -- Assumes nothing.
+use Rattle.std.proofs.Common.{Ok}
 use mathlib.Core.Path.{◌≡◌, refl, sym, ap, ap₂, ◌∙◌, subst}
 use mathlib.Core.Logic.{⊎_elim}
 use mathlib.Core.Bool.{Bool, true, false, not, ◌&&◌, ◌||◌}
@@ -18,7 +19,6 @@ use Rattle.ranges.specs.Align.{Decides}
 use Rattle.bits.specs.Bits.{bit, Summed, Lowest, Flipped}
 use Rattle.bits.proofs.Levels.{same?, front_kept, back_there, mid_tail}
 use Rattle.bits.proofs.Rooms.{summed_words}
-use Rattle.ids.specs.declared.Answer.TheVariants.{Id}
 use Rattle.ids.specs.State.{State, Within, Free, grant, release, Allocates}
 use Rattle.ids.specs.Layout.{as_digit, Laid}
 
@@ -174,11 +174,11 @@ module _ (ws : List ℕ) (s : State) (h : Laid ws s) where
       → Lowest (drop 4 ws) (s.high - s.low) i
       → Flipped (drop 4 ws) up (s.high - s.low) i × Summed h.levels up (s.high - s.low)
       → x ≡ max (get_or ws 3 0) (low + i + 1)
-      → Allocates s (Id (low + i)) × Laid (take 4 (set ws 3 x) ++ up) (grant s (low + i))
+      → Allocates s (Ok (low + i)) × Laid (take 4 (set ws 3 x) ++ up) (grant s (low + i))
   granting low n i x up a e k l f m =
       let in_gap : i ≤ s.high - s.low = omega arith in
       let free = least_free i l in_gap in
-      subst (λ (y : ℕ). Allocates s (Id (y + i)) × Laid (take 4 (set ws 3 x) ++ up) (grant s (y + i))) (sym a)
+      subst (λ (y : ℕ). Allocates s (Ok (y + i)) × Laid (take 4 (set ws 3 x) ++ up) (grant s (y + i))) (sym a)
       (free, laid_grant i x up in_gap f.0 f.1 free.0.1 (m ∙ ap₂ (λ (p q : ℕ). max p (q + i + 1)) h.next a))
 
   -- an id's bit decides whether the id is granted

@@ -1,5 +1,6 @@
 -- Tests on numbers and bools taken apart, and constructors told apart: what the laws about answers lean on.
 -- Assumes nothing.
+use Rattle.std.proofs.Common.{Result, Ok, Err}
 use mathlib.Core.Path.{◌≡◌, refl, sym}
 use mathlib.Core.Logic.{◌⊎◌, inl, inr, ⊎_elim}
 use mathlib.Core.Bool.{Bool, true, false, not, ◌&&◌, ◌||◌}
@@ -7,7 +8,6 @@ use Prim.Native.Nat.{ℕ, zero, suc, ◌≤◌, ◌<◌}
 use native.Mathlib.Omega.{arith}
 use Rattle.ranges.specs.Align.{Decides}
 use Rattle.ranges.specs.declared.Error.{Error}
-use Rattle.ids.specs.declared.Answer.TheVariants.{Id, Refused}
 use Rattle.ids.specs.Runs.Operation.{Allocate, Release}
 
 -- a number is at most another, or above it
@@ -36,10 +36,10 @@ pub and_both : (a b : Bool) → a ≡ false → b ≡ true → not a && b ≡ tr
 and_both true b e f = absurd (let z : ◌≡◌ {A = ℕ} 0 1 = cc (e) in omega arith)
 and_both false b e f = f
 
-pub not_refused : {A : Type 0} {e : Error} (i : ℕ) → Refused e ≡ Id i → A
+pub not_refused : {A : Type 0} {e : Error} (i : ℕ) → ◌≡◌ {A = Result ℕ Error} (Err e) (Ok i) → A
 not_refused i q = let z : ◌≡◌ {A = ℕ} 0 1 = cc (q) in absurd (omega arith)
 
-pub same_id : (k i : ℕ) → Id k ≡ Id i → k ≡ i
+pub same_id : (k i : ℕ) → ◌≡◌ {A = Result ℕ Error} (Ok k) (Ok i) → k ≡ i
 same_id k i q = cc (q)
 
 pub and_first : (a b : Bool) → not a && b ≡ true → a ≡ false

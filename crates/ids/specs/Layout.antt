@@ -1,8 +1,7 @@
 -- How a block of lent words holds a state: four words, the mark, low, high and next; then a bit for each id, then summaries.
-use Rattle.std.specs.Prelude.{◌≡◌, Bool, true, false, List, ◌⊎◌, ℕ, ◌+◌, ◌-◌, ◌^◌, ◌≤◌, ◌<◌, length, get_or, drop}
+use Rattle.std.specs.Prelude.{◌≡◌, Bool, true, false, List, ◌⊎◌, ℕ, ◌+◌, ◌-◌, ◌^◌, ◌≤◌, ◌<◌, length, get_or, drop, Option, Some, None}
 use Rattle.bits.specs.Bits.{bit, Summed, Words}
-use Rattle.ids.specs.declared.Last.{Last}
-use Rattle.ids.specs.declared.Last.TheVariants.{Bit, Missing}
+use Rattle.ids.specs.declared.Header.{Header}
 use Rattle.ids.specs.State.{State}
 
 -- the mark of an id allocator's block: the letters RK-ids01
@@ -19,9 +18,22 @@ pub record Headed (m low high n : ℕ) : Type 0 where
   pub enough : words ≤ n
 
 -- the last bit of the ids that a header is of; none where it is no header
-abbrev pub LastBit : ℕ → ℕ → ℕ → ℕ → Last → Type 0
-LastBit m low high n (Bit l) = Headed m low high n × (l ≡ high - low)
-LastBit m low high n Missing = Headed m low high n → ⊥
+abbrev pub LastBit : ℕ → ℕ → ℕ → ℕ → Option ℕ → Type 0
+LastBit m low high n (Some l) = Headed m low high n × (l ≡ high - low)
+LastBit m low high n None = Headed m low high n → ⊥
+
+-- the words that lie in the header of the words ws, and the last bit of its ids; none where ws has no header
+pub record HeadOf (ws : List ℕ) (h : Header) : Type 0 where
+  pub long : 4 ≤ length ws
+  pub head : Headed (get_or ws 0 0) h.low h.high (length ws - 4)
+  pub low : h.low ≡ get_or ws 1 0
+  pub high : h.high ≡ get_or ws 2 0
+  pub next : h.next ≡ get_or ws 3 0
+  pub last : h.last ≡ h.high - h.low
+
+abbrev pub Heads : List ℕ → Option Header → Type 0
+Heads ws (Some h) = HeadOf ws h
+Heads ws None = 4 ≤ length ws → Headed (get_or ws 0 0) (get_or ws 1 0) (get_or ws 2 0) (length ws - 4) → ⊥
 
 -- a bool as a digit
 abbrev pub as_digit : Bool → ℕ

@@ -1,8 +1,7 @@
 -- The allocator as the Rust keeps it: the lowest id that was never granted and the ids that were given back, with no mark for each id. Ledger so, whether an id
 -- can be handed out twice hangs on the test in free.
-use Rattle.std.specs.Prelude.{◌≡◌, Bool, true, false, ◌&&◌, ◌||◌, not, List, [], ◌∷◌, ℕ, ◌+◌, ◌≤◌, ◌<◌, eqb}
+use Rattle.std.specs.Prelude.{◌≡◌, Bool, true, false, ◌&&◌, ◌||◌, not, List, [], ◌∷◌, ℕ, ◌+◌, ◌≤◌, ◌<◌, eqb, Ok, Err}
 use Rattle.ranges.specs.declared.Error.{Error}
-use Rattle.ids.specs.declared.Answer.TheVariants.{Id, Refused}
 use Rattle.ids.specs.Runs.{Operation, Event, event}
 use Rattle.ids.specs.Runs.Operation.{Allocate, Release}
 
@@ -25,11 +24,11 @@ NotAbove next i = i ≤ next
 
 -- an operation and its answer, with T as the test: granted is an id that was given back, or where there is none the next; taken back is one that passes the test and is not back
 pub data Turn (T : ℕ → ℕ → Type 0) : Ledger → Event → Ledger → Type 0 where
-  again : {k : Ledger} {i : ℕ} → k.back i ≡ true → Turn T k (event Allocate (Id i)) (record { next = k.next; back = λ j. not (eqb j i) && k.back j })
-  first : {k : Ledger} → ((j : ℕ) → k.back j ≡ false) → Turn T k (event Allocate (Id k.next)) (record { next = k.next + 1; back = k.back })
+  again : {k : Ledger} {i : ℕ} → k.back i ≡ true → Turn T k (event Allocate (Ok i)) (record { next = k.next; back = λ j. not (eqb j i) && k.back j })
+  first : {k : Ledger} → ((j : ℕ) → k.back j ≡ false) → Turn T k (event Allocate (Ok k.next)) (record { next = k.next + 1; back = k.back })
   freed : {k : Ledger} {i : ℕ} → T k.next i → k.back i ≡ false
-      → Turn T k (event (Release i) (Id i)) (record { next = k.next; back = λ j. eqb j i || k.back j })
-  refused : {k : Ledger} {o : Operation} {e : Error} → Turn T k (event o (Refused e)) k
+      → Turn T k (event (Release i) (Ok i)) (record { next = k.next; back = λ j. eqb j i || k.back j })
+  refused : {k : Ledger} {o : Operation} {e : Error} → Turn T k (event o (Err e)) k
 
 -- operations and their answers one after the other
 pub data Turns (T : ℕ → ℕ → Type 0) : Ledger → List Event → Type 0 where

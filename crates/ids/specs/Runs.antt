@@ -1,8 +1,7 @@
 -- Sequences of operations: what each answers, the state that they end in, and what is so after any of them.
-use Rattle.std.specs.Prelude.{◌≡◌, true, false, List, [], ◌∷◌, ◌++◌, ◌⊎◌, ℕ, ◌+◌, ◌≤◌, ◌<◌}
+use Rattle.std.specs.Prelude.{◌≡◌, true, List, [], ◌∷◌, ◌++◌, ◌⊎◌, ℕ, ◌+◌, ◌≤◌, ◌<◌, Result, Ok}
 use Rattle.ranges.specs.Align.{Decides}
-use Rattle.ids.specs.declared.Answer.{Answer}
-use Rattle.ids.specs.declared.Answer.TheVariants.{Id, Refused}
+use Rattle.ranges.specs.declared.Error.{Error}
 use Rattle.ids.specs.State.{State, Within, Free, fresh, Allocates, allocated, Frees, freed}
 
 -- what is asked of an allocator
@@ -11,22 +10,22 @@ pub data Operation : Type 0 where
   Release : ℕ → Operation
 
 -- in state s the operation answers r
-abbrev pub Does : State → Operation → Answer → Type 0
+abbrev pub Does : State → Operation → Result ℕ Error → Type 0
 Does s Allocate r = Allocates s r
 Does s (Release i) r = Frees s i r
 
 -- the state after the answer
-abbrev pub after : State → Operation → Answer → State
+abbrev pub after : State → Operation → Result ℕ Error → State
 after s Allocate r = allocated s r
 after s (Release i) r = freed s r
 
 -- an operation and its answer
 pub record Event : Type 0 where
   pub asked : Operation
-  pub answer : Answer
+  pub answer : Result ℕ Error
 
 -- the event that o is answered r
-abbrev pub event : Operation → Answer → Event
+abbrev pub event : Operation → Result ℕ Error → Event
 event o r = record { asked = o; answer = r }
 
 -- from state s on the events happen one after the other, each answered as is right, and end in state t
@@ -36,11 +35,11 @@ Runs s (e ∷ es) t = Does s e.asked e.answer × Runs (after s e.asked e.answer)
 
 -- the event hands i out
 abbrev pub Grants : Event → ℕ → Type 0
-Grants e i = (e.asked ≡ Allocate) × (e.answer ≡ Id i)
+Grants e i = (e.asked ≡ Allocate) × (e.answer ≡ Ok i)
 
 -- the event gives i back
 abbrev pub Returns : Event → ℕ → Type 0
-Returns e i = (e.asked ≡ Release i) × (e.answer ≡ Id i)
+Returns e i = (e.asked ≡ Release i) × (e.answer ≡ Ok i)
 
 -- some event hands i out
 unfoldable pub Ever : List Event → ℕ → Type 0

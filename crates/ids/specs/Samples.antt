@@ -1,9 +1,8 @@
 -- A worked run of the definition: three ids, every kind of answer but "overflow"; and that, on the last two ids of all.
-use Rattle.std.specs.Prelude.{◌≡◌, refl, Bool, true, false, ◌&&◌, ◌||◌, not, List, [], ◌∷◌, ℕ, zero, suc, ◌≤◌, ◌<◌, eqb}
-use Rattle.std.proofs.Common.{ap, ◌∙◌, sym, inl, inr, arith, eq-eqb, lt_of_not-le}
+use Rattle.std.specs.Prelude.{◌≡◌, refl, true, [], ◌∷◌, ℕ, suc, ◌≤◌, ◌<◌, Ok, Err}
+use Rattle.std.proofs.Common.{ap, inl, inr, arith, lt_of_not-le}
 use Rattle.ranges.specs.declared.Error.{Error}
-use Rattle.ids.specs.declared.Answer.TheVariants.{Id, Refused}
-use Rattle.ids.specs.State.{State, Free, fresh, grant, release, Allocates}
+use Rattle.ids.specs.State.{State, Free, fresh, grant, release}
 use Rattle.ids.specs.Runs.{event, Runs}
 use Rattle.ids.specs.Runs.Operation.{Allocate, Release}
 
@@ -17,9 +16,9 @@ past i j h n = let l : i < j = lt_of_not-le (λ (k : j ≤ i). n (omega arith)) 
 
 -- the ids 5 to 7
 small : (t : State) × Runs (fresh 5 7)
-    (event Allocate (Id 5) ∷ event Allocate (Id 6) ∷ event (Release 5) (Id 5) ∷ event (Release 5) (Refused Error.AlreadyReleased)
-    ∷ event (Release 7) (Refused Error.NeverAllocated) ∷ event (Release 8) (Refused Error.OutOfRange) ∷ event Allocate (Id 5)
-    ∷ event Allocate (Id 7) ∷ event Allocate (Refused Error.ResourceNotAvailable) ∷ []) t
+    (event Allocate (Ok 5) ∷ event Allocate (Ok 6) ∷ event (Release 5) (Ok 5) ∷ event (Release 5) (Err Error.AlreadyReleased)
+    ∷ event (Release 7) (Err Error.NeverAllocated) ∷ event (Release 8) (Err Error.OutOfRange) ∷ event Allocate (Ok 5)
+    ∷ event Allocate (Ok 7) ∷ event Allocate (Err Error.ResourceNotAvailable) ∷ []) t
 unfolding Runs
 small =
     let s0 = fresh 5 7 in
@@ -61,7 +60,7 @@ small =
 
 -- the last two of the 32-bit numbers
 last : (t : State) × Runs (fresh 0xffff_fffe 0xffff_ffff)
-    (event Allocate (Id 0xffff_fffe) ∷ event Allocate (Id 0xffff_ffff) ∷ event Allocate (Refused Error.Overflow) ∷ []) t
+    (event Allocate (Ok 0xffff_fffe) ∷ event Allocate (Ok 0xffff_ffff) ∷ event Allocate (Err Error.Overflow) ∷ []) t
 unfolding Runs
 last =
     let s1 = grant (fresh 0xffff_fffe 0xffff_ffff) 0xffff_fffe in

@@ -1,8 +1,6 @@
 -- What the id allocator is to do, said of numbers alone: its states, and what each operation answers and leaves.
-use Rattle.std.specs.Prelude.{◌≡◌, Bool, true, false, ◌&&◌, ◌||◌, not, ◌⊎◌, ℕ, ◌+◌, ◌-◌, ◌^◌, ◌≤◌, ◌<◌, max, eqb}
+use Rattle.std.specs.Prelude.{◌≡◌, Bool, true, false, ◌&&◌, ◌||◌, not, ◌⊎◌, ℕ, ◌+◌, ◌-◌, ◌^◌, ◌≤◌, ◌<◌, max, eqb, Result, Ok, Err}
 use Rattle.ranges.specs.declared.Error.{Error}
-use Rattle.ids.specs.declared.Answer.{Answer}
-use Rattle.ids.specs.declared.Answer.TheVariants.{Id, Refused}
 
 -- the ids low to high; the lowest id that was never granted; which ids are granted now
 pub record State : Type 0 where
@@ -37,24 +35,24 @@ exhausted true = Error.Overflow
 exhausted false = Error.ResourceNotAvailable
 
 -- allocate answers the least free id, and is refused exactly where no id is free
-abbrev pub Allocates : State → Answer → Type 0
-Allocates s (Id i) = Free s i × ((j : ℕ) → Free s j → i ≤ j)
-Allocates s (Refused e) = ((j : ℕ) → Free s j → ⊥) × (e ≡ exhausted (eqb s.high (2 ^ 32 - 1)))
+abbrev pub Allocates : State → Result ℕ Error → Type 0
+Allocates s (Ok i) = Free s i × ((j : ℕ) → Free s j → i ≤ j)
+Allocates s (Err e) = ((j : ℕ) → Free s j → ⊥) × (e ≡ exhausted (eqb s.high (2 ^ 32 - 1)))
 
 -- free of i answers i where i is granted; else it is refused, with the first of these reasons that is so
-abbrev pub Frees : State → ℕ → Answer → Type 0
-Frees s i (Id k) = (k ≡ i) × Within s i × (i < s.next) × (s.granted i ≡ true)
-Frees s i (Refused e) =
+abbrev pub Frees : State → ℕ → Result ℕ Error → Type 0
+Frees s i (Ok k) = (k ≡ i) × Within s i × (i < s.next) × (s.granted i ≡ true)
+Frees s i (Err e) =
     ((e ≡ Error.OutOfRange) × (Within s i → ⊥))
     ⊎ (((e ≡ Error.NeverAllocated) × Within s i × (s.next ≤ i))
     ⊎ ((e ≡ Error.AlreadyReleased) × Within s i × (i < s.next) × (s.granted i ≡ false)))
 
 -- the state after allocate's answer: a refusal leaves it as it was
-abbrev pub allocated : State → Answer → State
-allocated s (Id i) = grant s i
-allocated s (Refused e) = s
+abbrev pub allocated : State → Result ℕ Error → State
+allocated s (Ok i) = grant s i
+allocated s (Err e) = s
 
 -- the state after free's answer: a refusal leaves it as it was
-abbrev pub freed : State → Answer → State
-freed s (Id i) = release s i
-freed s (Refused e) = s
+abbrev pub freed : State → Result ℕ Error → State
+freed s (Ok i) = release s i
+freed s (Err e) = s

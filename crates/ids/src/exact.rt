@@ -1,55 +1,39 @@
 // What judging a claim asks of the allocator: the lowest free id with nothing granted, and a grant of just one id.
 ghost use Rattle.ids.specs.Exact.{Asks, Takes};
 
-use crate::{Answer, Last, larger, last_bit};
+use crate::head;
 use ranges::Error;
 
 // What `allocate` would answer: the lowest id that is not granted. Nothing is granted by this.
-pub fn lowest(mem: &[u64]) -> Answer
+// The two tests stand in `allocate` too: one function for both would need clauses on the header and the bit, longer than these lines.
+pub fn lowest(mem: &[u64]) -> Result<u32, Error>
     ensures { Asks mem.now result }
 {
-    if mem.len() < 4 {
-        return Answer::Refused(Error::NoState);
-    }
-    let low = mem[1];
-    let high = mem[2];
-    let Last::Bit(last) = last_bit(mem[0], low, high, mem.len() - 4) else {
-        return Answer::Refused(Error::NoState);
-    };
-    let i = bits::find(&mem[4..], last);
-    if (last as u64) < i {
-        if high == 0xffff_ffff {
-            return Answer::Refused(Error::Overflow);
+    let h = head(mem).ok_or(Error::NoState)?;
+    let i = bits::find(&mem[4..], h.last);
+    if (h.last as u64) < i {
+        if h.high == 0xffff_ffff {
+            return Err(Error::Overflow);
         }
-        return Answer::Refused(Error::ResourceNotAvailable);
+        return Err(Error::ResourceNotAvailable);
     }
-    Answer::Id((low + i) as u32)
+    Ok((h.low + i) as u32)
 }
 
 // Grants just this id. Refused, in this order: an id outside the interval; one that is granted.
-pub fn take(mem: &mut [u64], id: u32) -> Answer
+pub fn take(mem: &mut [u64], id: u32) -> Result<u32, Error>
     ensures { Takes mem.old id result mem.new }
 {
-    if mem.len() < 4 {
-        return Answer::Refused(Error::NoState);
-    }
-    let low = mem[1];
-    let high = mem[2];
-    let Last::Bit(last) = last_bit(mem[0], low, high, mem.len() - 4) else {
-        return Answer::Refused(Error::NoState);
-    };
+    let h = head(mem).ok_or(Error::NoState)?;
     let x = id as u64;
-    if x < low {
-        return Answer::Refused(Error::OutOfRange);
+    if x < h.low || h.high < x {
+        return Err(Error::OutOfRange);
     }
-    if high < x {
-        return Answer::Refused(Error::OutOfRange);
-    }
-    let i = (x - low) as u32;
+    let i = (x - h.low) as u32;
     if bits::is_set(&mem[4..], i) {
-        return Answer::Refused(Error::ResourceNotAvailable);
+        return Err(Error::ResourceNotAvailable);
     }
-    mem[3] = larger(mem[3], x + 1);
-    bits::flip(&mut mem[4..], last, i);
-    Answer::Id(id)
+    mem[3] = h.next.max(x + 1);
+    bits::flip(&mut mem[4..], h.last, i);
+    Ok(id)
 }

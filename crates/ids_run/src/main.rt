@@ -2,60 +2,39 @@
 // the end of the 32-bit numbers; memory that holds no allocator; and 10,000 ids, which take three levels.
 #![tactic(auto)]
 
-use ids::{Answer, Setup};
-use ranges::Error;
+use Call::{Free, New};
 use std::io;
 
-// Stands for `allocate` in a list of operations; a smaller number is an id to free.
-const NEW: u64 = 0x1_0000_0000;
-
-fn name(rt: &impl Print, e: Error) -> io::Result<()> {
-    say::reason(rt, e)?;
-    say::text(rt, b"\n")
-}
-
-fn number(rt: &impl Print, n: u64) -> io::Result<()> {
-    print!(rt; "{n}")?;
-    say::text(rt, b"\n")
-}
-
-fn show(rt: &impl Print, a: Answer) -> io::Result<()> {
-    match a {
-        Answer::Id(i) => number(rt, i as u64),
-        Answer::Refused(e) => name(rt, e),
-    }
+// An operation of a run.
+#[derive(Clone, Copy)]
+enum Call {
+    New,
+    Free(u32),
 }
 
 // Makes an allocator, and says whether it was made.
 fn make(rt: &impl Print, mem: &mut [u64], low: u32, high: u32) -> io::Result<()> {
     let words = ids::words_needed(low, high);
-    print!(rt; "ids {low} to {high}, words {words}")?;
-    match ids::new(mem, low, high) {
-        Setup::Ready => say::text(rt, b": ready\n"),
-        Setup::Unfit(e) => {
-            say::text(rt, b": ")?;
-            name(rt, e)
+    print!(rt; "ids {low} to {high}, words {words}: ")?;
+    say::answer(rt, ids::new(mem, low, high).map(|_| "ready"))
+}
+
+fn step(rt: &impl Print, mem: &mut [u64], what: Call) -> io::Result<()> {
+    match what {
+        New => {
+            print!(rt; "allocate: ")?;
+            say::answer(rt, ids::allocate(mem))
+        }
+        Free(id) => {
+            print!(rt; "free {id}: ")?;
+            say::answer(rt, ids::free(mem, id))
         }
     }
 }
 
-fn step(rt: &impl Print, mem: &mut [u64], what: u64) -> io::Result<()> {
-    if what < NEW {
-        say::text(rt, b"free ")?;
-        print!(rt; "{what}")?;
-        say::text(rt, b": ")?;
-        show(rt, ids::free(mem, what as u32))
-    } else {
-        say::text(rt, b"allocate: ")?;
-        show(rt, ids::allocate(mem))
-    }
-}
-
-fn run(rt: &impl Print, mem: &mut [u64], steps: &[u64]) -> io::Result<()> {
-    let mut k = 0;
-    while k < steps.len() {
-        step(rt, mem, steps[k])?;
-        k += 1;
+fn run(rt: &impl Print, mem: &mut [u64], steps: &[Call]) -> io::Result<()> {
+    for what in steps {
+        step(rt, mem, *what)?;
     }
     Ok(())
 }
@@ -63,14 +42,10 @@ fn run(rt: &impl Print, mem: &mut [u64], steps: &[u64]) -> io::Result<()> {
 // How many of the next n grants are from, from + 1 and so on.
 fn grants(mem: &mut [u64], from: u32, n: u32) -> u32 {
     let mut good = 0;
-    let mut k = 0;
-    while k < n {
-        if let Answer::Id(i) = ids::allocate(mem) {
-            if i as u64 == from as u64 + k as u64 {
-                good += 1;
-            }
+    for k in 0..n {
+        if ids::allocate(mem) == Ok(from.wrapping_add(k)) {
+            good += 1;
         }
-        k += 1;
     }
     good
 }
@@ -86,18 +61,50 @@ fn small(rt: &impl Print) -> io::Result<()> {
         rt,
         &mut mem,
         &[
-            5, NEW, NEW, NEW, 8, NEW, NEW, NEW, NEW, NEW, NEW, 10, 10, 9, NEW, 21, 14, 3, 24,
+            Free(5),
+            New,
+            New,
+            New,
+            Free(8),
+            New,
+            New,
+            New,
+            New,
+            New,
+            New,
+            Free(10),
+            Free(10),
+            Free(9),
+            New,
+            Free(21),
+            Free(14),
+            Free(3),
+            Free(24),
         ],
     )?;
     run(
         rt,
         &mut mem,
         &[
-            NEW, NEW, NEW, NEW, NEW, NEW, NEW, NEW, NEW, NEW, NEW, NEW, 23, NEW, NEW,
+            New,
+            New,
+            New,
+            New,
+            New,
+            New,
+            New,
+            New,
+            New,
+            New,
+            New,
+            New,
+            Free(23),
+            New,
+            New,
         ],
     )?;
     make(rt, &mut mem, 7, 7)?;
-    run(rt, &mut mem, &[NEW, NEW, 7, 7, NEW])
+    run(rt, &mut mem, &[New, New, Free(7), Free(7), New])
 }
 
 // Up to 2^32 - 1, where there is no next number.
@@ -108,14 +115,14 @@ fn end(rt: &impl Print) -> io::Result<()> {
         rt,
         &mut mem,
         &[
-            NEW,
-            NEW,
-            NEW,
-            0xffff_ffff,
-            0xffff_ffff,
-            NEW,
-            NEW,
-            0xffff_fffd,
+            New,
+            New,
+            New,
+            Free(0xffff_ffff),
+            Free(0xffff_ffff),
+            New,
+            New,
+            Free(0xffff_fffd),
         ],
     )
 }
@@ -123,16 +130,16 @@ fn end(rt: &impl Print) -> io::Result<()> {
 // Memory that holds no allocator: too short for a header, zeros, another mark, and too short for its interval.
 fn none(rt: &impl Print) -> io::Result<()> {
     let mut short = [0u64; 3];
-    run(rt, &mut short, &[NEW, 5])?;
+    run(rt, &mut short, &[New, Free(5)])?;
     let mut mem = [0u64; 8];
-    run(rt, &mut mem, &[NEW, 0])?;
+    run(rt, &mut mem, &[New, Free(0)])?;
     make(rt, &mut mem, 0, 64)?;
     mem[2] = 1000;
-    run(rt, &mut mem, &[NEW, 0])?;
+    run(rt, &mut mem, &[New, Free(0)])?;
     mem[2] = 64;
-    run(rt, &mut mem, &[NEW, 0])?;
+    run(rt, &mut mem, &[New, Free(0)])?;
     mem[0] = 1;
-    run(rt, &mut mem, &[NEW, 0])
+    run(rt, &mut mem, &[New, Free(0)])
 }
 
 fn main(rt: HostRuntime) -> io::Result<()> {
@@ -141,12 +148,26 @@ fn main(rt: HostRuntime) -> io::Result<()> {
     none(&rt)?;
     let mut many = [0u64; 165];
     make(&rt, &mut many, 100, 10099)?;
-    number(&rt, grants(&mut many, 100, 10000) as u64)?;
+    let good = grants(&mut many, 100, 10000);
+    println!(rt; "{good}")?;
     run(
         &rt,
         &mut many,
         &[
-            NEW, 5100, 10099, 4196, 164, 163, 4195, NEW, NEW, NEW, NEW, NEW, NEW, NEW,
+            New,
+            Free(5100),
+            Free(10099),
+            Free(4196),
+            Free(164),
+            Free(163),
+            Free(4195),
+            New,
+            New,
+            New,
+            New,
+            New,
+            New,
+            New,
         ],
     )
 }

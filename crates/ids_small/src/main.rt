@@ -6,21 +6,23 @@
 // that they are all. After the operation each id is given back, which shows the whole state.
 #![tactic(auto)]
 
-use ids::Answer;
+use ranges::Error;
 use std::io;
-use std::num::{wrapping_add_u32, wrapping_add_u64, wrapping_sub_u32};
 
-// An answer is a number: the id, or this and the reason's number.
-const REFUSED: u64 = 0x1_0000_0000;
-
-// The ids low to low + n - 1; a state; and an operation: 0 is `allocate`, k is `free` of low + k - 2.
+// The ids low to low + n - 1, how many of them were ever granted, and which are granted now, a bit for each.
 #[derive(Clone, Copy)]
-struct Case {
+struct State {
     low: u32,
     n: u32,
     ever: u32,
     granted: u32,
-    k: u32,
+}
+
+#[derive(Clone, Copy)]
+enum Operation {
+    Allocate,
+    // of the id that is so much above the lowest; u32::MAX stands for the one below it
+    Free(u32),
 }
 
 #[derive(Clone, Copy)]
@@ -31,240 +33,139 @@ struct Count {
     wrong: u64,
 }
 
-fn high(c: Case) -> u32 {
-    wrapping_add_u32(c.low, wrapping_sub_u32(c.n, 1))
-}
-
-fn differ(a: u64, b: u64) -> u64 {
-    if a == b { 0 } else { 1 }
-}
-
 // ---- the model
-
-fn has(set: u32, i: u32) -> bool {
-    if (set >> (i % 32)) % 2 == 1 {
-        true
-    } else {
-        false
-    }
-}
 
 fn one(i: u32) -> u32 {
     1u32 << (i % 32)
 }
 
-// The lowest of 0 to n - 1 that is not in the set; n where all are.
-fn lowest(set: u32, n: u32) -> u32 {
-    let mut i = 0;
-    while i < n {
-        if !has(set, i) {
-            return i;
-        }
-        i += 1;
+impl State {
+    fn id(self, i: u32) -> u32 {
+        self.low.wrapping_add(i)
     }
-    n
-}
 
-fn right(c: Case) -> u64 {
-    if c.k == 0 {
-        let i = lowest(c.granted, c.n);
-        if i < c.n {
-            return c.low as u64 + i as u64;
-        }
-        if high(c) == u32::MAX {
-            return REFUSED + 1;
-        }
-        return REFUSED + 5;
+    fn high(self) -> u32 {
+        self.id(self.n.wrapping_sub(1))
     }
-    let i = wrapping_sub_u32(c.k, 2);
-    if c.n <= i {
-        return REFUSED + 2;
-    }
-    if c.ever <= i {
-        return REFUSED + 4;
-    }
-    if !has(c.granted, i) {
-        return REFUSED + 3;
-    }
-    c.low as u64 + i as u64
-}
 
-fn with(c: Case, ever: u32, granted: u32) -> Case {
-    Case {
-        low: c.low,
-        n: c.n,
-        ever,
-        granted,
-        k: c.k,
+    fn has(self, i: u32) -> bool {
+        self.granted & one(i) != 0
     }
-}
 
-// The state after the operation.
-fn after(c: Case) -> Case {
-    if c.k == 0 {
-        let i = lowest(c.granted, c.n);
-        if c.n <= i {
-            return c;
-        }
-        if i < c.ever {
-            return with(c, c.ever, c.granted | one(i));
-        }
-        return with(c, wrapping_add_u32(i, 1), c.granted | one(i));
+    // The lowest that is not granted.
+    fn lowest(self) -> Option<u32> {
+        (0..self.n).find(|i| !self.has(*i))
     }
-    let i = wrapping_sub_u32(c.k, 2);
-    if c.ever <= i {
-        return c;
-    }
-    with(c, c.ever, c.granted & !one(i))
-}
 
-// Whether the states of which every one is tried have this one among them.
-fn listed(c: Case) -> bool {
-    if c.n < c.ever {
-        return false;
+    fn right(self, o: Operation) -> Result<u32, Error> {
+        match o {
+            Operation::Allocate => match self.lowest() {
+                Some(i) => Ok(self.id(i)),
+                None if self.high() == u32::MAX => Err(Error::Overflow),
+                None => Err(Error::ResourceNotAvailable),
+            },
+            Operation::Free(i) if self.n <= i => Err(Error::OutOfRange),
+            Operation::Free(i) if self.ever <= i => Err(Error::NeverAllocated),
+            Operation::Free(i) if !self.has(i) => Err(Error::AlreadyReleased),
+            Operation::Free(i) => Ok(self.id(i)),
+        }
     }
-    if c.granted < one(c.ever) { true } else { false }
+
+    // The state after the operation.
+    fn after(self, o: Operation) -> State {
+        match o {
+            Operation::Allocate => match self.lowest() {
+                Some(i) => State {
+                    ever: self.ever.max(i.wrapping_add(1)),
+                    granted: self.granted | one(i),
+                    ..self
+                },
+                None => self,
+            },
+            Operation::Free(i) if i < self.ever => State {
+                granted: self.granted & !one(i),
+                ..self
+            },
+            Operation::Free(_) => self,
+        }
+    }
+
+    // Whether the states of which every one is tried have this one among them.
+    fn listed(self) -> bool {
+        self.ever <= self.n && self.granted < one(self.ever)
+    }
 }
 
 // ---- the allocator
 
-fn code(a: Answer) -> u64 {
-    match a {
-        Answer::Id(i) => i as u64,
-        Answer::Refused(e) => {
-            let n = e.number();
-            REFUSED + n as u64
-        }
-    }
-}
-
-fn act(mem: &mut [u64], low: u32, k: u32) -> u64 {
-    if k == 0 {
-        return code(ids::allocate(mem));
-    }
-    code(ids::free(mem, wrapping_add_u32(low, wrapping_sub_u32(k, 2))))
-}
-
-fn grant(mem: &mut [u64], n: u32) {
-    let mut i = 0;
-    while i < n {
-        ids::allocate(mem);
-        i += 1;
-    }
-}
-
-fn give_one_back(mem: &mut [u64], c: Case, i: u32) {
-    if !has(c.granted, i) {
-        ids::free(mem, wrapping_add_u32(c.low, i));
-    }
-}
-
-fn give_back(mem: &mut [u64], c: Case) {
-    let mut i = 0;
-    while i < c.ever {
-        give_one_back(mem, c, i);
-        i += 1;
+fn act(mem: &mut [u64], low: u32, o: Operation) -> Result<u32, Error> {
+    match o {
+        Operation::Allocate => ids::allocate(mem),
+        Operation::Free(i) => ids::free(mem, low.wrapping_add(i)),
     }
 }
 
 // An allocator in the state, from nothing.
-fn reach(mem: &mut [u64], c: Case) {
-    ids::new(mem, c.low, high(c));
-    grant(mem, c.ever);
-    give_back(mem, c);
+fn reach(mem: &mut [u64], s: State) {
+    let _ = ids::new(mem, s.low, s.high());
+    for _ in 0..s.ever {
+        let _ = ids::allocate(mem);
+    }
+    for i in 0..s.ever {
+        if !s.has(i) {
+            let _ = ids::free(mem, s.id(i));
+        }
+    }
 }
 
 // ---- the comparison
 
 // Gives each id back, and counts the answers that are not the model's.
-fn probe(mem: &mut [u64], c: Case) -> u64 {
-    let mut wrong = 0;
-    let mut i = 0;
-    while i < c.n {
-        let k = wrapping_add_u32(i, 2);
-        let asked = Case {
-            low: c.low,
-            n: c.n,
-            ever: c.ever,
-            granted: c.granted,
-            k,
-        };
-        wrong = wrapping_add_u64(wrong, differ(act(mem, c.low, k), right(asked)));
-        i += 1;
+fn probe(mem: &mut [u64], s: State) -> u64 {
+    let mut wrong: u64 = 0;
+    for i in 0..s.n {
+        let back = Operation::Free(i);
+        if act(mem, s.low, back) != s.right(back) {
+            wrong = wrong.wrapping_add(1);
+        }
     }
     wrong
 }
 
-// Whether a refusal changed a word of the block.
-fn changed(got: u64, a: [u64; 5], b: [u64; 5]) -> u64 {
-    if got < REFUSED {
-        return 0;
-    }
-    let mut k = 0;
-    while k < 5 {
-        if a[k] != b[k] {
-            return 1;
-        }
-        k += 1;
-    }
-    0
-}
-
-// How many of the comparisons of one case are wrong.
-fn wrong_in(c: Case) -> u64 {
+// How many of the comparisons of one operation are wrong: the answer, the block after a refusal, the next state, and each id
+// given back.
+fn wrong_in(s: State, o: Operation) -> u64 {
     let mut mem = [0u64; 5];
-    reach(&mut mem, c);
+    reach(&mut mem, s);
     let old = mem;
-    let got = act(&mut mem, c.low, c.k);
-    let mut wrong = differ(got, right(c));
-    wrong = wrapping_add_u64(wrong, changed(got, mem, old));
-    let next = after(c);
-    if !listed(next) {
-        wrong = wrapping_add_u64(wrong, 1);
-    }
-    wrapping_add_u64(wrong, probe(&mut mem, next))
+    let got = act(&mut mem, s.low, o);
+    let next = s.after(o);
+    let wrong = u64::from(got != s.right(o))
+        + u64::from(got.is_err() && mem != old)
+        + u64::from(!next.listed());
+    probe(&mut mem, next).wrapping_add(wrong)
 }
 
-// Case number t of all, places 0 to 2; many numbers stand for none.
-fn numbered(t: u32) -> Case {
-    let n = t / 1536 % 5 + 1;
-    let mut low = 0;
-    if t / 7680 == 1 {
-        low = 0x7fff_fffe;
+impl Count {
+    fn tried(self, s: State, o: Operation) -> Count {
+        let comparisons = s.n as u64 + 2 + u64::from(s.right(o).is_err());
+        Count {
+            operations: self.operations.wrapping_add(1),
+            comparisons: self.comparisons.wrapping_add(comparisons),
+            wrong: self.wrong.wrapping_add(wrong_in(s, o)),
+            ..self
+        }
     }
-    if t / 7680 == 2 {
-        low = wrapping_sub_u32(0, n);
-    }
-    Case {
-        low,
-        n,
-        ever: t / 256 % 6,
-        granted: t / 8 % 32,
-        k: t % 8,
-    }
-}
 
-fn counted(before: Count, c: Case) -> Count {
-    if !listed(c) {
-        return before;
-    }
-    if wrapping_add_u32(c.n, 2) < c.k {
-        return before;
-    }
-    let mut states = before.states;
-    if c.k == 0 {
-        states = wrapping_add_u64(states, 1);
-    }
-    // the answer, the next state, each id given back, and the block after a refusal
-    let mut comparisons = wrapping_add_u64(before.comparisons, c.n as u64 + 2);
-    if REFUSED <= right(c) {
-        comparisons = wrapping_add_u64(comparisons, 1);
-    }
-    Count {
-        states,
-        operations: wrapping_add_u64(before.operations, 1),
-        comparisons,
-        wrong: wrapping_add_u64(before.wrong, wrong_in(c)),
+    // Each operation from the state: frees of the ids from the one below the lowest to the one above the highest.
+    fn tried_all(self, s: State) -> Count {
+        let mut sum = self.tried(s, Operation::Allocate);
+        sum = sum.tried(s, Operation::Free(u32::MAX));
+        for i in 0..=s.n {
+            sum = sum.tried(s, Operation::Free(i));
+        }
+        sum.states = sum.states.wrapping_add(1);
+        sum
     }
 }
 
@@ -275,23 +176,27 @@ fn all() -> Count {
         comparisons: 0,
         wrong: 0,
     };
-    let mut t = 0;
-    while t < 23040 {
-        sum = counted(sum, numbered(t));
-        t += 1;
+    for n in 1..6u32 {
+        for low in [0, 0x7fff_fffe, 0u32.wrapping_sub(n)] {
+            for ever in 0..=n {
+                for granted in 0..one(ever) {
+                    sum = sum.tried_all(State {
+                        low,
+                        n,
+                        ever,
+                        granted,
+                    });
+                }
+            }
+        }
     }
     sum
 }
 
-fn line(rt: &impl Print, n: u64, what: &[u8]) -> io::Result<()> {
-    print!(rt; "{n}")?;
-    rt.write_all(what)
-}
-
 fn main(rt: HostRuntime) -> io::Result<()> {
     let sum = all();
-    line(&rt, sum.states, b" states\n")?;
-    line(&rt, sum.operations, b" operations\n")?;
-    line(&rt, sum.comparisons, b" comparisons\n")?;
-    line(&rt, sum.wrong, b" wrong\n")
+    println!(rt; "{} states", sum.states)?;
+    println!(rt; "{} operations", sum.operations)?;
+    println!(rt; "{} comparisons", sum.comparisons)?;
+    println!(rt; "{} wrong", sum.wrong)
 }

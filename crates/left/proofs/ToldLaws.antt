@@ -5,13 +5,14 @@
 --     all_free                 a pool that is all free answers its size twice
 --     none_free                one in which nothing is free answers 0 and 0
 -- Assumes nothing.
-use Prim.Native.Nat.{ℕ, ◌+◌, ◌-◌, ◌≤◌, ◌<◌}
+use Prim.Native.Nat.{ℕ, ◌+◌, ◌≤◌, ◌<◌}
 use mathlib.Core.Path.{◌≡◌, sym}
 use mathlib.Core.List.Memᴰ
 use mathlib.Core.List.{List}
 use native.Mathlib.Decide.{dec_le}
 use native.Mathlib.Nat.{zero-add, mul-one}
 use native.Mathlib.Omega.{arith}
+use Rattle.std.proofs.Common.{Ok, Err}
 use Rattle.ranges.specs.declared.Error.{Error}
 use Rattle.ranges.specs.Count.{Count, none}
 use Rattle.ranges.proofs.CountLaws.{count_more, count_skip, count_most, count_same}
@@ -21,16 +22,16 @@ use Rattle.addresses.specs.Runs.{Valid}
 use Rattle.addresses.specs.Held.{Holds}
 use Rattle.addresses.proofs.RowLaws.{greatest_unique}
 use Rattle.addresses.proofs.StepLaws.{clear_within}
-use Rattle.left.specs.declared.Left.TheVariants.{Known, Refused}
+use Rattle.left.specs.declared.Left.{Left}
 use Rattle.left.specs.Contract.{FreeAddresses, FitsSomewhere, LargestFree, Tells}
 
-pub always_told : (m : List ℕ) (p : Pool) (y : Error) → Holds m p → Tells m (Refused y) → ⊥
+pub always_told : (m : List ℕ) (p : Pool) (y : Error) → Holds m p → Tells m (Err y) → ⊥
 unfolding Tells
 always_told m p y h t = t.1 p h
 
-pub told_once : (m : List ℕ) (p : Pool) (f l f' l' : ℕ) → Holds m p → Tells m (Known f l) → Tells m (Known f' l') → (f ≡ f') × (l ≡ l')
+pub told_once : (m : List ℕ) (p : Pool) (l l' : Left) → Holds m p → Tells m (Ok l) → Tells m (Ok l') → (l.free ≡ l'.free) × (l.largest ≡ l'.largest)
 unfolding Tells
-told_once m p f l f' l' h t t' = (count_same (t p h).0 (t' p h).0, greatest_unique (FitsSomewhere p.state) l l' (t p h).1 (t' p h).1)
+told_once m p l l' h t t' = (count_same (t p h).0 (t' p h).0, greatest_unique (FitsSomewhere p.state) l.largest l'.largest (t p h).1 (t' p h).1)
 
 -- ---- the highest numbers
 

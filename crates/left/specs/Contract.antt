@@ -1,5 +1,5 @@
 -- What is left of a pool, said of its addresses and not of its table; and what `ask` answers.
-use Rattle.std.specs.Prelude.{ℕ, ◌≡◌, List}
+use Rattle.std.specs.Prelude.{ℕ, ◌≡◌, List, Result, Ok, Err}
 use Rattle.ranges.specs.declared.Error.{Error}
 use Rattle.ranges.specs.Align.{Multiple}
 use Rattle.ranges.specs.Count.{Count}
@@ -7,7 +7,6 @@ use Rattle.addresses.specs.Meaning.{State, Free, Fits, Greatest}
 use Rattle.addresses.specs.Operations.{Pool}
 use Rattle.addresses.specs.Held.{Holds}
 use Rattle.left.specs.declared.Left.{Left}
-use Rattle.left.specs.declared.Left.TheVariants.{Known, Refused}
 
 -- n of the pool's addresses are free
 abbrev pub FreeAddresses : State → ℕ → Type 0
@@ -22,6 +21,6 @@ abbrev pub LargestFree : State → ℕ → Type 0
 LargestFree σ n = Greatest (FitsSomewhere σ) n
 
 -- what `ask` answers of the block m: a block that holds a pool is never refused
-unfoldable pub Tells : List ℕ → Left → Type 0
-Tells m (Known free largest) = (p : Pool) → Holds m p → FreeAddresses p.state free × LargestFree p.state largest
-Tells m (Refused e) = (e ≡ Error.NoState) × ((p : Pool) → Holds m p → ⊥)
+unfoldable pub Tells : List ℕ → Result Left Error → Type 0
+Tells m (Ok l) = (p : Pool) → Holds m p → FreeAddresses p.state l.free × LargestFree p.state l.largest
+Tells m (Err e) = (e ≡ Error.NoState) × ((p : Pool) → Holds m p → ⊥)

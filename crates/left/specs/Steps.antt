@@ -1,8 +1,7 @@
 -- What the private step of `ask` answers.
-use Rattle.std.specs.Prelude.{ℕ, ◌+◌, ◌-◌, ◌^◌, ◌≤◌, max, ◌≡◌}
+use Rattle.std.specs.Prelude.{ℕ, ◌+◌, ◌-◌, ◌^◌, ◌≤◌, max, ◌≡◌, Result, Ok, Err}
 use Rattle.ranges.specs.declared.Error.{Error}
 use Rattle.left.specs.declared.Left.{Left}
-use Rattle.left.specs.declared.Left.TheVariants.{Known, Refused}
 
 -- the two numbers f and l once the range from a to e with the tag g is passed, where they were `free` and `largest` before
 pub record Passed (free largest a e g f l : ℕ) : Type 0 where
@@ -11,6 +10,6 @@ pub record Passed (free largest a e g f l : ℕ) : Type 0 where
   pub of_held : (g ≡ 0 → ⊥) → (f ≡ free) × (l ≡ largest)
 
 -- what `pass` answers: refused is what is no range, and a sum past 2^64 - 1
-abbrev pub Passes : ℕ → ℕ → ℕ → ℕ → ℕ → Left → Type 0
-Passes free largest a e g (Known f l) = Passed free largest a e g f l
-Passes free largest a e g (Refused x) = (x ≡ Error.NoState) × (a ≤ e → (g ≡ 0) × (2 ^ 64 ≤ free + (e - a + 1)))
+abbrev pub Passes : ℕ → ℕ → ℕ → ℕ → ℕ → Result Left Error → Type 0
+Passes free largest a e g (Ok l) = Passed free largest a e g l.free l.largest
+Passes free largest a e g (Err x) = (x ≡ Error.NoState) × (a ≤ e → (g ≡ 0) × (2 ^ 64 ≤ free + (e - a + 1)))

@@ -3,19 +3,12 @@
 #![tactic(auto)]
 
 ghost use Rattle.std.specs.Prelude.{◌≡◌};
-ghost use Rattle.lines.specs.Lines.{pool_at, limit_at, ids_at, show_at, together_at, ended_at, other_of};
+ghost use Rattle.lines.specs.Lines.{pool_at, ids_at, show_at, together_at, other_of};
 
 use claims::Claim;
-use fields::{Flaw, IdTaken, Name, NameTaken, NumberTaken};
+use fields::{Flaw, Name, Wrong};
 use ranges::AllocPolicy;
 use vocabulary::Word;
-
-// How many ranges a pool's table may hold.
-#[derive(Clone, Copy)]
-pub enum Limit {
-    Unsaid,
-    Said(u64),
-}
 
 // What a line says.
 #[derive(Clone, Copy)]
@@ -25,7 +18,8 @@ pub enum Line {
         name: Name,
         base: u64,
         size: u64,
-        limit: Limit,
+        // how many ranges its table may hold, where the line says it
+        limit: Option<u64>,
     },
     Ids {
         name: Name,
@@ -67,18 +61,15 @@ pub enum Line {
     Together {
         count: u64,
     },
-    // What is wrong, and the place of it in the line.
-    Wrong {
-        why: Flaw,
-        at: usize,
-    },
 }
 
 // Reads a line that is no operation; its first word says which.
-pub fn other(s: &[u8]) -> Line
+#[tactic(auto, unfolding(crate::specs::Lines::other_of))]
+pub fn other(s: &[u8]) -> Result<Line, Wrong>
     ensures { result ≡ other_of s.now }
 {
     let next = text::end(s, 0);
+    // one `if` a word: each reads the rest in its own way, and a table of words and functions would say no more
     if vocabulary::next_is(s, 0, Word::Pool) {
         return pool(s, next);
     }
@@ -91,121 +82,63 @@ pub fn other(s: &[u8]) -> Line
     if vocabulary::next_is(s, 0, Word::Together) {
         return together(s, next);
     }
-    Line::Wrong {
-        why: Flaw::UnknownWord,
-        at: text::start(s, 0),
-    }
+    Err(Flaw::UnknownWord.at(text::start(s, 0)))
 }
 
 // NAME BASE SIZE, and `limit N` or nothing.
-fn pool(s: &[u8], at: usize) -> Line
+#[tactic(auto, unfolding(crate::specs::Lines::pool_at, crate::specs::Lines::limit_at, crate::specs::Lines::ended_at))]
+fn pool(s: &[u8], at: usize) -> Result<Line, Wrong>
     ensures { result ≡ pool_at s.now at }
 {
-    match fields::take_name(s, at) {
-        NameTaken::Wrong(why, at) => Line::Wrong { why, at },
-        NameTaken::Is(name, i) => match fields::take_number(s, i) {
-            NumberTaken::Wrong(why, at) => Line::Wrong { why, at },
-            NumberTaken::Is(base, j) => match fields::take_number(s, j) {
-                NumberTaken::Wrong(why, at) => Line::Wrong { why, at },
-                NumberTaken::Is(size, k) => take_limit(s, name, base, size, k),
-            },
-        },
-    }
-}
-
-fn take_limit(s: &[u8], name: Name, base: u64, size: u64, at: usize) -> Line
-    ensures { result ≡ limit_at s.now name base size at }
-{
-    if vocabulary::next_is(s, at, Word::Limit) {
-        return match fields::take_number(s, text::end(s, at)) {
-            NumberTaken::Wrong(why, at) => Line::Wrong { why, at },
-            NumberTaken::Is(n, i) => {
-                let limit = Limit::Said(n);
-                close(
-                    s,
-                    i,
-                    Line::Pool {
-                        name,
-                        base,
-                        size,
-                        limit,
-                    },
-                )
-            }
-        };
-    }
-    let limit = Limit::Unsaid;
-    close(
-        s,
-        at,
-        Line::Pool {
-            name,
-            base,
-            size,
-            limit,
-        },
-    )
+    let (name, at) = fields::take_name(s, at)?;
+    let (base, at) = fields::take_number(s, at)?;
+    let (size, at) = fields::take_number(s, at)?;
+    let (limit, at) = if vocabulary::next_is(s, at, Word::Limit) {
+        let (n, at) = fields::take_number(s, text::end(s, at))?;
+        (Some(n), at)
+    } else {
+        (None, at)
+    };
+    fields::take_end(s, at)?;
+    Ok(Line::Pool {
+        name,
+        base,
+        size,
+        limit,
+    })
 }
 
 // NAME LOW HIGH.
-fn ids(s: &[u8], at: usize) -> Line
+#[tactic(auto, unfolding(crate::specs::Lines::ids_at, crate::specs::Lines::ended_at))]
+fn ids(s: &[u8], at: usize) -> Result<Line, Wrong>
     ensures { result ≡ ids_at s.now at }
 {
-    match fields::take_name(s, at) {
-        NameTaken::Wrong(why, at) => Line::Wrong { why, at },
-        NameTaken::Is(name, i) => match fields::take_id(s, i) {
-            IdTaken::Wrong(why, at) => Line::Wrong { why, at },
-            IdTaken::Is(low, j) => match fields::take_id(s, j) {
-                IdTaken::Wrong(why, at) => Line::Wrong { why, at },
-                IdTaken::Is(high, k) => close(s, k, Line::Ids { name, low, high }),
-            },
-        },
-    }
+    let (name, at) = fields::take_name(s, at)?;
+    let (low, at) = fields::take_id(s, at)?;
+    let (high, at) = fields::take_id(s, at)?;
+    fields::take_end(s, at)?;
+    Ok(Line::Ids { name, low, high })
 }
 
 // NAME.
-fn show(s: &[u8], at: usize) -> Line
+#[tactic(auto, unfolding(crate::specs::Lines::show_at, crate::specs::Lines::ended_at))]
+fn show(s: &[u8], at: usize) -> Result<Line, Wrong>
     ensures { result ≡ show_at s.now at }
 {
-    match fields::take_name(s, at) {
-        NameTaken::Wrong(why, at) => Line::Wrong { why, at },
-        NameTaken::Is(name, i) => close(s, i, Line::Show { name }),
-    }
+    let (name, at) = fields::take_name(s, at)?;
+    fields::take_end(s, at)?;
+    Ok(Line::Show { name })
 }
 
 // 2 or 3.
-fn together(s: &[u8], at: usize) -> Line
+#[tactic(auto, unfolding(crate::specs::Lines::together_at, crate::specs::Lines::ended_at))]
+fn together(s: &[u8], at: usize) -> Result<Line, Wrong>
     ensures { result ≡ together_at s.now at }
 {
-    match fields::take_number(s, at) {
-        NumberTaken::Wrong(why, at) => Line::Wrong { why, at },
-        NumberTaken::Is(count, i) => {
-            if count < 2 {
-                return Line::Wrong {
-                    why: Flaw::CountExpected,
-                    at: text::start(s, at),
-                };
-            }
-            if 3 < count {
-                return Line::Wrong {
-                    why: Flaw::CountExpected,
-                    at: text::start(s, at),
-                };
-            }
-            close(s, i, Line::Together { count })
-        }
+    let (count, next) = fields::take_number(s, at)?;
+    if count < 2 || count > 3 {
+        return Err(Flaw::CountExpected.at(text::start(s, at)));
     }
-}
-
-// The operation, where nothing stands behind it.
-fn close(s: &[u8], at: usize, line: Line) -> Line
-    ensures { result ≡ ended_at s.now at line }
-{
-    if text::no_word(s, at) {
-        return line;
-    }
-    Line::Wrong {
-        why: Flaw::LeftOver,
-        at: text::start(s, at),
-    }
+    fields::take_end(s, next)?;
+    Ok(Line::Together { count })
 }

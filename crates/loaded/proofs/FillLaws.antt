@@ -3,11 +3,10 @@
 --     filled_step      one range more
 --     filled_end       after all of them the block holds the pool
 -- Assumes nothing.
-use Rattle.std.proofs.Common.{◌≡◌, ℕ, zero, suc, ◌+◌, ◌-◌, ◌*◌, ◌%◌, ◌^◌, ◌<◌, ◌≤◌, cond, eqb, ◌⊎◌, List, [], ◌∷◌, ◌++◌, length, sym, refl, ap, ◌∙◌, subst, inl, inr, ⊎_elim, append_assoc, append-nil, mod-eq_of_lt, arith, length-append, eq-eqb, ne_eqb}
+use Rattle.std.proofs.Common.{◌≡◌, ℕ, zero, suc, ◌+◌, ◌-◌, ◌*◌, ◌%◌, ◌^◌, ◌<◌, ◌≤◌, cond, ◌⊎◌, List, [], ◌∷◌, ◌++◌, length, sym, refl, ap, ◌∙◌, subst, inl, inr, append_assoc, append-nil, mod-eq_of_lt, arith, eq-eqb, ne_eqb}
 use Rattle.ranges.specs.declared.AllocPolicy.TheVariants.{ExactMatch}
 use Rattle.ranges.specs.declared.RangeInclusive.{RangeInclusive}
 use Rattle.table.specs.Row.{Tile, past, Covers}
-use Rattle.addresses.specs.declared.Answer.{Answer}
 use Rattle.addresses.specs.Meaning.{row_of}
 use Rattle.addresses.specs.Operations.{Pool}
 use Rattle.addresses.specs.Runs.{Valid}
@@ -15,7 +14,7 @@ use Rattle.addresses.specs.Held.{Holds}
 use Rattle.addresses.specs.Contract.{Performs, asking}
 use Rattle.addresses.proofs.RowLaws.{Behind, covers_row, ranges, ranges_row}
 use Rattle.addresses.proofs.Tiles.{covers_cons}
-use Rattle.addresses.proofs.WalkLaws.{behind_past, behind_top}
+use Rattle.addresses.proofs.WalkLaws.{behind_top}
 use Rattle.addresses.proofs.ReachLaws.{ask}
 use Rattle.addresses.proofs.RebuildLaws.{having, rebuild_step}
 use Rattle.saved.specs.Format.{Tiles}

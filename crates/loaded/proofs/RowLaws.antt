@@ -3,7 +3,7 @@
 --     pool_sensible     those of a valid pool pass them
 --     good_more         one range more passes the test
 --     tests_both        what one statement decides, an equivalent one does
-use Rattle.std.proofs.Common.{◌≡◌, ℕ, zero, suc, ◌+◌, ◌-◌, ◌*◌, ◌^◌, ◌<◌, ◌≤◌, ◌⊎◌, List, [], ◌∷◌, length, sym, refl, ap, ◌∙◌, subst, inl, inr, ⊎_elim, arith}
+use Rattle.std.proofs.Common.{◌≡◌, ℕ, zero, suc, ◌+◌, ◌-◌, ◌*◌, ◌^◌, ◌<◌, ◌≤◌, List, [], ◌∷◌, length, sym, refl, ap, ◌∙◌, subst, ⊎_elim, Result, Ok, Err, arith}
 use mathlib.Core.List.Memᴰ
 use mathlib.Core.List.{Memᴰ}
 use Rattle.octets.specs.Octets.{word}
@@ -11,15 +11,14 @@ use Rattle.octets.proofs.Words.{below_or_not}
 use Rattle.frame.specs.Frame.{Frame}
 use Rattle.frame.proofs.FrameLaws.{frame_same}
 use Rattle.table.specs.Row.{Tile, Covers}
-use Rattle.addresses.specs.Meaning.{State, row_of}
+use Rattle.addresses.specs.Meaning.{row_of}
 use Rattle.addresses.specs.Operations.{Pool}
 use Rattle.addresses.specs.Runs.{Valid}
 use Rattle.addresses.proofs.TableLaws.{Table, pool_of, table_pool, table_valid, state_table}
-use Rattle.saved.specs.Format.{kind, Tiles, Message, size}
+use Rattle.saved.specs.Format.{kind, Tiles, Message}
 use Rattle.loaded.specs.Contract.{Begins}
-use Rattle.loaded.specs.declared.Found.{Found}
-use Rattle.loaded.specs.declared.Found.TheVariants.{Fine, Wrong}
-use Rattle.loaded.specs.Steps.{Pair, Good, AllGood, Sensible, Tests}
+use Rattle.frame.specs.declared.Fault.{Fault}
+use Rattle.loaded.specs.Steps.{Good, AllGood, Sensible, Tests}
 
 -- ---- the row that words say
 
@@ -164,7 +163,7 @@ good_more w last n i f g j more l e =
     subst (λ (x : ℕ). Good w last (7 + 2 * x) more) z (subst (Good w last (7 + 2 * i)) y g))
     (below_or_not j i)
 
-pub tests_both : (w : ℕ → ℕ) (r : Found) (P Q : Type 0) → (P → Q) → (Q → P) → Tests w r P → Tests w r Q
+pub tests_both : (w : ℕ → ℕ) (r : Result (Unit {0}) Fault) (P Q : Type 0) → (P → Q) → (Q → P) → Tests w r P → Tests w r Q
 unfolding Tests
-tests_both w Fine P Q f g t = f t
-tests_both w (Wrong flaw place) P Q f g t = (λ q. t.0 (g q), t.1)
+tests_both w (Ok u) P Q f g t = f t
+tests_both w (Err e) P Q f g t = (λ q. t.0 (g q), t.1)

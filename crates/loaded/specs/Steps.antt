@@ -1,5 +1,5 @@
 -- What the private steps of `load` test and do. w are the words of the bytes.
-use Rattle.std.specs.Prelude.{◌≡◌, ℕ, ◌+◌, ◌-◌, ◌*◌, ◌%◌, ◌^◌, ◌<◌, ◌≤◌, List, [], length, ◌≢◌}
+use Rattle.std.specs.Prelude.{◌≡◌, ℕ, ◌+◌, ◌-◌, ◌*◌, ◌%◌, ◌^◌, ◌<◌, ◌≤◌, List, [], length, ◌≢◌, Result, Ok, Err}
 use Rattle.ranges.specs.declared.AllocPolicy.TheVariants.{ExactMatch}
 use Rattle.addresses.specs.declared.Answer.{Answer}
 use Rattle.addresses.specs.Meaning.{row_of}
@@ -7,10 +7,9 @@ use Rattle.addresses.specs.Operations.{Pool}
 use Rattle.addresses.specs.Runs.{Valid}
 use Rattle.addresses.specs.Held.{Holds}
 use Rattle.addresses.specs.Contract.{Performs, asking}
+use Rattle.frame.specs.declared.Fault.{Fault}
 use Rattle.saved.specs.Format.{Tiles}
 use Rattle.loaded.specs.Misfits.{Misfit}
-use Rattle.loaded.specs.declared.Found.{Found}
-use Rattle.loaded.specs.declared.Found.TheVariants.{Fine, Wrong}
 
 -- the range at word k and the next one: it starts lower, and one of the two is granted
 pub record Pair (w : ℕ → ℕ) (k : ℕ) : Type 0 where
@@ -40,9 +39,9 @@ pub record Sensible (w : ℕ → ℕ) (base last limit words : ℕ) : Type 0 whe
   pub ranges : AllGood w last 7 count
 
 -- an answer that decides P, and says why not
-unfoldable pub Tests : (ℕ → ℕ) → Found → Type 0 → Type 0
-Tests w Fine P = P
-Tests w (Wrong flaw place) P = (P → ⊥) × Misfit w flaw place
+unfoldable pub Tests : (ℕ → ℕ) → Result (Unit {0}) Fault → Type 0 → Type 0
+Tests w (Ok u) P = P
+Tests w (Err f) P = (P → ⊥) × Misfit w f.flaw f.place
 
 -- the address past range i, of n ranges up to the address `last`, modulo 2^64
 pub record Ends (w : ℕ → ℕ) (last n i r : ℕ) : Type 0 where

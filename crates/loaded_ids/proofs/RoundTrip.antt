@@ -7,17 +7,13 @@
 --     loaded_reached      what is accepted is a state that some operations reach
 --     reached_loaded      each state of 32-bit ids that some operations reach is accepted where its bytes stand
 --     changed_refused     bytes of which one was changed are refused: so it is with one flipped bit
-use Prim.Native.Nat.{ℕ, zero, suc, ◌+◌, ◌-◌, ◌*◌, ◌^◌, ◌≤◌, ◌<◌}
-use mathlib.Core.Path.{◌≡◌, refl, sym, ap, ◌∙◌, subst}
-use mathlib.Core.Bool.{true, false}
-use mathlib.Core.Logic.{⊎_elim}
-use mathlib.Core.List.{List}
-use native.Mathlib.Omega.{arith}
-use lib.ListN.{length, get_or}
+use Rattle.std.proofs.Common.{ℕ, zero, suc, ◌+◌, ◌-◌, ◌*◌, ◌^◌, ◌≤◌, ◌<◌, ◌≡◌, refl, sym, ap, ◌∙◌, subst, true, false, ⊎_elim, List, length, get_or, Result, Ok, Err, arith}
 use Rattle.octets.specs.Octets.{word, Bytes}
 use Rattle.octets.proofs.Words.{below_or_not}
 use Rattle.frame.specs.Frame.{Frame}
-use Rattle.frame.specs.declared.Flaw.{Flaw}
+use Rattle.frame.specs.declared.Fault.{Fault}
+use Rattle.frame.specs.declared.LoadError.{LoadError}
+use Rattle.frame.specs.declared.LoadError.TheVariants as load
 use Rattle.frame.proofs.FrameLaws.{frame_same, frame_bytes, frame_changed}
 use Rattle.ids.specs.State.{State}
 use Rattle.ids.specs.Runs.{Valid, Reached}
@@ -25,10 +21,7 @@ use Rattle.ids.specs.Held.{Holds, Needs}
 use Rattle.ids.proofs.Tests.{same_bool, false_true, is_either}
 use Rattle.ids.proofs.Reachable.{reached_valid, valid_reached}
 use Rattle.saved_ids.specs.Format.{kind, Freed, Message, freed_of, size}
-use Rattle.saved_ids.specs.declared.Saved.TheVariants as saved
 use Rattle.saved_ids.specs.Contract.{Saves}
-use Rattle.loaded_ids.specs.declared.Loaded.{Loaded}
-use Rattle.loaded_ids.specs.declared.Loaded.TheVariants as loaded
 use Rattle.loaded_ids.specs.Contract.{Begins, Loads}
 
 -- ---- the freed ids in order
@@ -119,28 +112,28 @@ message_bytes u v s k l a b f g =
 -- ---- round trips
 
 -- what reading answers where the bytes begin with the state s, in n bytes
-unfoldable pub Resumes : List ℕ → State → ℕ → Loaded → List ℕ → Type 0
-Resumes m s k (loaded.Bytes n) m' = (n ≡ k) × Holds m' s
-Resumes m s k loaded.NoRoom m' = (m' ≡ m) × (words : ℕ) × Needs s.low s.high words × (length m < words)
-Resumes m s k (loaded.Refused flaw _) m' = ⊥
+unfoldable pub Resumes : List ℕ → State → ℕ → Result ℕ LoadError → List ℕ → Type 0
+Resumes m s k (Ok n) m' = (n ≡ k) × Holds m' s
+Resumes m s k (Err load.NoRoom) m' = (m' ≡ m) × (words : ℕ) × Needs s.low s.high words × (length m < words)
+Resumes m s k (Err (load.Bad fault)) m' = ⊥
 
-resumes : (bs m m' : List ℕ) (s : State) (n : ℕ) (r : Loaded) → Begins bs n s → Loads bs m r m' → Resumes m s n r m'
+resumes : (bs m m' : List ℕ) (s : State) (n : ℕ) (r : Result ℕ LoadError) → Begins bs n s → Loads bs m r m' → Resumes m s n r m'
 unfolding Loads Resumes
-resumes bs m m' s n (loaded.Bytes k) b l =
+resumes bs m m' s n (Ok k) b l =
     let e : l.0 ≡ s = message_one bs l.0 s l.1.freed b.freed l.1.valid b.valid l.1.message b.message in
     (omega (arith, l.1.taken, b.taken, l.1.message.frame.count, b.message.frame.count), subst (Holds m') e l.2)
-resumes bs m m' s n loaded.NoRoom b l =
+resumes bs m m' s n (Err load.NoRoom) b l =
     let e : l.1 ≡ s = message_one bs l.1 s l.3.freed b.freed l.3.valid b.valid l.3.message b.message in
     (l.0, l.4, subst (λ (t : State). Needs t.low t.high l.4) e l.5, l.6)
-resumes bs m m' s n (loaded.Refused flaw _) b l = l.2 s n b
+resumes bs m m' s n (Err (load.Bad fault)) b l = l.2 s n b
 
 -- the theorem, one way: from the block k the state s is written into the bytes, and they are read into the block m
-pub read_written : (k bs bs' m m' : List ℕ) (n : ℕ) (s : State) (r : Loaded) → Holds k s → Valid s → s.high < 2 ^ 32 → Saves k bs (saved.Bytes n) bs' → Loads bs' m r m' → Resumes m s (size s) r m'
+pub read_written : (k bs bs' m m' : List ℕ) (n : ℕ) (s : State) (r : Result ℕ LoadError) → Holds k s → Valid s → s.high < 2 ^ 32 → Saves k bs (Ok n) bs' → Loads bs' m r m' → Resumes m s (size s) r m'
 unfolding Saves
 read_written k bs bs' m m' n s r h v small w l = resumes bs' m m' s (size s) r (record { freed = freed_of s; message = (w.1 s h v).message; valid = v; small = small; taken = refl }) l
 
 -- the other way: the bytes bs are read into a block, and that block is written into other bytes
-pub written_read : (bs m m' cs cs' : List ℕ) (n k : ℕ) → Bytes bs → Bytes cs' → Loads bs m (loaded.Bytes n) m' → Saves m' cs (saved.Bytes k) cs' → (k ≡ n) × ((j : ℕ) → j < n → get_or cs' j 0 ≡ get_or bs j 0)
+pub written_read : (bs m m' cs cs' : List ℕ) (n k : ℕ) → Bytes bs → Bytes cs' → Loads bs m (Ok n) m' → Saves m' cs (Ok k) cs' → (k ≡ n) × ((j : ℕ) → j < n → get_or cs' j 0 ≡ get_or bs j 0)
 unfolding Loads Saves
 written_read bs m m' cs cs' n k a b l s =
     let w = s.1 l.0 l.2 l.1.valid in
@@ -148,19 +141,19 @@ written_read bs m m' cs cs' n k a b l s =
     (omega (arith, w.taken, e.0, l.1.taken), λ j h. e.1 j (omega (arith, e.0, l.1.taken)))
 
 -- what is accepted is what is reached
-pub loaded_reached : (bs m m' : List ℕ) (n : ℕ) → Loads bs m (loaded.Bytes n) m' → (s : State) × Reached s × Begins bs n s × Holds m' s
+pub loaded_reached : (bs m m' : List ℕ) (n : ℕ) → Loads bs m (Ok n) m' → (s : State) × Reached s × Begins bs n s × Holds m' s
 unfolding Loads
 loaded_reached bs m m' n l = (l.0, valid_reached l.0 l.1.valid, l.1, l.2)
 
-pub reached_loaded : (bs m m' : List ℕ) (s : State) (k : ℕ) (r : Loaded) → Reached s → s.high < 2 ^ 32 → Message bs s k → Loads bs m r m' → Resumes m s (64 + 8 * k) r m'
+pub reached_loaded : (bs m m' : List ℕ) (s : State) (k : ℕ) (r : Result ℕ LoadError) → Reached s → s.high < 2 ^ 32 → Message bs s k → Loads bs m r m' → Resumes m s (64 + 8 * k) r m'
 reached_loaded bs m m' s k r q small f l = resumes bs m m' s (64 + 8 * k) r (record { freed = k; message = f; valid = reached_valid s q; small = small; taken = refl }) l
 
 -- one byte is another
 caught : (bs bs' : List ℕ) (i k l : ℕ) (s t : State) → Bytes bs → Bytes bs' → Message bs s k → Message bs' t l → i < 64 + 8 * k → ((j : ℕ) → (j ≡ i → ⊥) → get_or bs' j 0 ≡ get_or bs j 0) → get_or bs' i 0 ≡ get_or bs i 0
 caught bs bs' i k l s t a b f g h o = frame_changed kind _ _ _ _ _ _ _ _ i bs bs' a b f.frame g.frame (omega arith) o
 
-pub changed_refused : (bs bs' m m' : List ℕ) (i k : ℕ) (s : State) (r : Loaded) → Bytes bs → Bytes bs' → Message bs s k → i < 64 + 8 * k → (get_or bs' i 0 ≡ get_or bs i 0 → ⊥) → ((j : ℕ) → (j ≡ i → ⊥) → get_or bs' j 0 ≡ get_or bs j 0) → Loads bs' m r m' → (flaw : Flaw) × (place : ℕ) × (r ≡ loaded.Refused flaw place)
+pub changed_refused : (bs bs' m m' : List ℕ) (i k : ℕ) (s : State) (r : Result ℕ LoadError) → Bytes bs → Bytes bs' → Message bs s k → i < 64 + 8 * k → (get_or bs' i 0 ≡ get_or bs i 0 → ⊥) → ((j : ℕ) → (j ≡ i → ⊥) → get_or bs' j 0 ≡ get_or bs j 0) → Loads bs' m r m' → (fault : Fault) × (r ≡ Err (load.Bad fault))
 unfolding Loads
-changed_refused bs bs' m m' i k s (loaded.Bytes n) a b f h d o l = absurd (d (caught bs bs' i k l.1.freed s l.0 a b f l.1.message h o))
-changed_refused bs bs' m m' i k s loaded.NoRoom a b f h d o l = absurd (d (caught bs bs' i k l.3.freed s l.1 a b f l.3.message h o))
-changed_refused bs bs' m m' i k s (loaded.Refused flaw place) a b f h d o l = (flaw, place, refl)
+changed_refused bs bs' m m' i k s (Ok n) a b f h d o l = absurd (d (caught bs bs' i k l.1.freed s l.0 a b f l.1.message h o))
+changed_refused bs bs' m m' i k s (Err load.NoRoom) a b f h d o l = absurd (d (caught bs bs' i k l.3.freed s l.1 a b f l.3.message h o))
+changed_refused bs bs' m m' i k s (Err (load.Bad fault)) a b f h d o l = (fault, refl)

@@ -1,17 +1,10 @@
 -- Granting the lowest ids and giving the freed ones back, from the contracts of `allocate` and `free`. Assumes nothing.
 --     granted_start, granted_step     after n allocations of a fresh allocator its n lowest ids are granted
 --     given_start, given_step         after i frees the first i of the freed ids are free, and no others
-use Prim.Native.Nat.{ℕ, zero, suc, ◌+◌, ◌≤◌, ◌<◌}
-use mathlib.Core.Path.{◌≡◌, refl, sym, ap, ◌∙◌, subst}
-use mathlib.Core.Bool.{Bool, true, false, not, ◌&&◌}
-use mathlib.Core.Logic.{◌⊎◌, ⊎_elim, inl, inr}
-use mathlib.Core.List.{List}
-use native.Mathlib.Omega.{arith}
-use lib.Dec.{eqb}
-use borrow.Author.Tests.{eq-eqb, eqb-true}
+use Rattle.std.proofs.Common.{ℕ, zero, suc, ◌+◌, ◌≤◌, ◌<◌, ◌≡◌, refl, sym, ap, ◌∙◌, subst, Bool, true, false, not, ◌&&◌, ◌⊎◌, ⊎_elim, inl, inr, List, eqb, Result, Ok, arith, eq-eqb}
+use borrow.Author.Tests.{eqb-true}
 use Rattle.octets.proofs.Words.{below_or_not}
-use Rattle.ids.specs.declared.Answer.{Answer}
-use Rattle.ids.specs.declared.Answer.TheVariants.{Id}
+use Rattle.ranges.specs.declared.Error.{Error}
 use Rattle.ids.specs.State.{State, fresh, grant, release, Allocates, Frees}
 use Rattle.ids.specs.Runs.{Allocate, Release, after}
 use Rattle.ids.specs.Held.{Holds}
@@ -27,7 +20,7 @@ pub granted_start : (low high : ℕ) → low ≤ high → Full (fresh low high) 
 granted_start low high l = record { first = refl; last = refl; new = omega arith; valid = valid_fresh low high l; held = λ j a b. absurd (omega arith) }
 
 module _ (s : State) (low high n : ℕ) (f : Full s low high (low + n)) (l : low + n ≤ high) where
-  is_lowest : Allocates s (Id (low + n))
+  is_lowest : Allocates s (Ok (low + n))
   is_lowest =
       (((omega (arith, f.first), omega (arith, f.last, l)), not_true (s.granted (low + n)) (λ e. omega (arith, f.new, (f.valid.below (low + n) e).1))), λ j g. ⊎_elim (λ (k : j < low + n). absurd (false_true (s.granted j) g.1 (f.held j (omega (arith, f.first, g.0.0)) k))) (λ (k : low + n ≤ j). k) (below_or_not j (low + n)))
 
@@ -36,7 +29,7 @@ module _ (s : State) (low high n : ℕ) (f : Full s low high (low + n)) (l : low
     first = f.first;
     last = f.last;
     new = omega (arith, f.new);
-    valid = valid_allocated s (Id (low + n)) f.valid is_lowest;
+    valid = valid_allocated s (Ok (low + n)) f.valid is_lowest;
     held = λ j a b.
         ⊎_elim
         (λ (k : j < low + n). or_right (eqb j (low + n)) (s.granted j) (f.held j a k))
@@ -44,8 +37,8 @@ module _ (s : State) (low high n : ℕ) (f : Full s low high (low + n)) (l : low
         (below_or_not j (low + n));
   }
 
-  pub granted_step : (r : Answer) (m m' : List ℕ) → Holds m s → Performs m Allocate r m' → (t : State) × Full t low high (low + (n + 1)) × Holds m' t
-  granted_step r m m' h p = (grant s (low + n), granted_next, subst (λ (y : Answer). Holds m' (after s Allocate y)) (allocates_one s r (Id (low + n)) (p.right s h).0 is_lowest) (p.right s h).1)
+  pub granted_step : (r : Result ℕ Error) (m m' : List ℕ) → Holds m s → Performs m Allocate r m' → (t : State) × Full t low high (low + (n + 1)) × Holds m' t
+  granted_step r m m' h p = (grant s (low + n), granted_next, subst (λ (y : Result ℕ Error). Holds m' (after s Allocate y)) (allocates_one s r (Ok (low + n)) (p.right s h).0 is_lowest) (p.right s h).1)
 
 -- there is such a state
 pub granted_some : (low high n : ℕ) → low ≤ high → low + n ≤ high + 1 → (s : State) × Full s low high (low + n)
@@ -95,7 +88,7 @@ module _ (w : ℕ → ℕ) (low high next k i x : ℕ) (s : State) (f : Given w 
       (λ (z : s.granted x ≡ true). z)
       (is_either (s.granted x))
 
-  is : Frees s x (Id x)
+  is : Frees s x (Ok x)
   is = (refl, (omega (arith, f.first, e, (g i l).from), omega (arith, f.last, f.new, f.valid.to_high, e, (g i l).below)), omega (arith, f.new, e, (g i l).below), held)
 
   only : (j : ℕ) → j < i + 1 → (s.low ≤ w (7 + j)) × (w (7 + j) < s.next) × ((release s x).granted (w (7 + j)) ≡ false)
@@ -121,12 +114,12 @@ module _ (w : ℕ → ℕ) (low high next k i x : ℕ) (s : State) (f : Given w 
     first = f.first;
     last = f.last;
     new = f.new;
-    valid = valid_freed s x (Id x) f.valid is;
+    valid = valid_freed s x (Ok x) f.valid is;
     freed = record { rising = λ y u. (g y (omega arith)).rising (omega arith); only = only; all = all };
   }
 
-  pub given_step : (r : Answer) (m m' : List ℕ) → Holds m s → Performs m (Release x) r m' → (t : State) × Given w low high next (i + 1) t × Holds m' t
-  given_step r m m' h p = (release s x, given_next, subst (λ (y : Answer). Holds m' (after s (Release x) y)) (frees_one s x r (Id x) (p.right s h).0 is) (p.right s h).1)
+  pub given_step : (r : Result ℕ Error) (m m' : List ℕ) → Holds m s → Performs m (Release x) r m' → (t : State) × Given w low high next (i + 1) t × Holds m' t
+  given_step r m m' h p = (release s x, given_next, subst (λ (y : Result ℕ Error). Holds m' (after s (Release x) y)) (frees_one s x r (Ok x) (p.right s h).0 is) (p.right s h).1)
 
 -- there is such a state
 pub given_some : (w : ℕ → ℕ) (low high next k i : ℕ) (s : State) → Full s low high next → AllGood w low next k → i ≤ k → (t : State) × Given w low high next i t

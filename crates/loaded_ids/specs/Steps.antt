@@ -1,12 +1,11 @@
 -- What the private steps of `load` test and do. w are the words of the bytes.
-use Rattle.std.specs.Prelude.{ℕ, ◌+◌, ◌^◌, ◌≤◌, ◌<◌, ◌≡◌, true, List}
+use Rattle.std.specs.Prelude.{ℕ, ◌+◌, ◌^◌, ◌≤◌, ◌<◌, ◌≡◌, true, List, Result, Ok, Err}
 use Rattle.ids.specs.State.{State, fresh}
 use Rattle.ids.specs.Runs.{Valid}
 use Rattle.ids.specs.Held.{Holds}
+use Rattle.frame.specs.declared.Fault.{Fault}
 use Rattle.saved_ids.specs.Format.{Freed}
 use Rattle.loaded_ids.specs.Misfits.{Misfit}
-use Rattle.loaded_ids.specs.declared.Found.{Found}
-use Rattle.loaded_ids.specs.declared.Found.TheVariants.{Fine, Wrong}
 
 -- these are the lowest id, the next new one and the number of freed ones
 pub record Heads (w : ℕ → ℕ) (low next k : ℕ) : Type 0 where
@@ -33,9 +32,9 @@ pub record Sensible (w : ℕ → ℕ) (low high next k : ℕ) : Type 0 where
   pub ids : AllGood w low next k
 
 -- an answer that decides P, and says why not
-unfoldable pub Tests : (ℕ → ℕ) → Found → Type 0 → Type 0
-Tests w Fine P = P
-Tests w (Wrong flaw place) P = (P → ⊥) × Misfit w flaw place
+unfoldable pub Tests : (ℕ → ℕ) → Result (Unit {0}) Fault → Type 0 → Type 0
+Tests w (Ok u) P = P
+Tests w (Err f) P = (P → ⊥) × Misfit w f.flaw f.place
 
 -- the ids from low up to, not including, next are granted, and no others
 pub record Full (s : State) (low high next : ℕ) : Type 0 where

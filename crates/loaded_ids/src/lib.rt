@@ -9,168 +9,116 @@ ghost use Rattle.saved_ids.specs.Format.{kind};
 ghost use Rattle.loaded_ids.specs.Contract.{Loads};
 ghost use Rattle.loaded_ids.specs.Steps.{Heads, Good, AllGood, Sensible, Tests, Grants, Gives};
 
-use frame::{Flaw, Opened};
-use ids::Setup;
+use frame::{Fault, Flaw, LoadError, Opened};
+use saved_ids::KIND;
 
-// The letters RKsavedI: what the first eight bytes of a saved id allocator are.
-const KIND: u64 = 0x4964_6576_6173_4b52;
-
-// How many bytes were read, that the block is too short, or what is wrong with the bytes, and the place of the byte at which it stands.
+// The k freed ids of a frame, of ids from `low` up to, not including, `next`.
 #[derive(Clone, Copy)]
-pub enum Loaded {
-    Bytes(usize),
-    NoRoom,
-    Refused { flaw: Flaw, place: usize },
+struct FreedIds<'a> {
+    bs: &'a [u8],
+    low: u64,
+    next: u64,
+    k: usize,
+    ghost long: { 64 + 8 * k ≤ length bs.now },
+    ghost heads: { Heads (word bs.now) low next k },
 }
 
-// What a test found.
-#[derive(Clone, Copy)]
-enum Found {
-    Fine,
-    Wrong { flaw: Flaw, place: usize },
-}
-
-// Whether freed id i of k is as it is to be.
-fn freed(bs: &[u8], low: u64, next: u64, k: usize, i: usize) -> Found
-    requires k_in_bounds { 64 + 8 * k ≤ length bs.now }
-    requires i_lt_k { i < k }
-    requires heads { Heads (word bs.now) low next k }
-    ensures { Tests (word bs.now) result (Good (word bs.now) low next k i) }
-{
-    let id = octets::get(bs, 7 + i);
-    if id < low {
-        return Found::Wrong {
-            flaw: Flaw::Order,
-            place: 8 * (7 + i),
-        };
-    }
-    if next <= id {
-        return Found::Wrong {
-            flaw: Flaw::Outside,
-            place: 8 * (7 + i),
-        };
-    }
-    if k <= i + 1 {
-        return Found::Fine;
-    }
-    if octets::get(bs, 8 + i) <= id {
-        return Found::Wrong {
-            flaw: Flaw::Order,
-            place: 8 * (8 + i),
-        };
-    }
-    Found::Fine
-}
-
-// Whether all k freed ids are.
-fn all_freed(bs: &[u8], low: u64, next: u64, k: usize) -> Found
-    requires k_in_bounds { 64 + 8 * k ≤ length bs.now }
-    requires heads { Heads (word bs.now) low next k }
-    ensures { Tests (word bs.now) result (AllGood (word bs.now) low next k) }
-{
-    let mut i = 0;
-    while i < k {
-        let found = freed(bs, low, next, k, i);
-        if let Found::Wrong { flaw, place } = found {
-            return Found::Wrong { flaw, place };
+impl FreedIds<'_> {
+    // Whether freed id i is as it is to be.
+    fn freed(&self, i: usize) -> Result<(), Fault>
+        requires { i < self.now.k }
+        ensures { Tests (word self.now.bs.now) result (Good (word self.now.bs.now) self.now.low self.now.next self.now.k i) }
+    {
+        let id = octets::get(self.bs, 7 + i);
+        if id < self.low {
+            return Err(Fault::at(Flaw::Order, 8 * (7 + i)));
         }
-        i += 1;
+        if self.next <= id {
+            return Err(Fault::at(Flaw::Outside, 8 * (7 + i)));
+        }
+        if i + 1 < self.k && octets::get(self.bs, 8 + i) <= id {
+            return Err(Fault::at(Flaw::Order, 8 * (8 + i)));
+        }
+        Ok(())
     }
-    Found::Fine
+
+    // Whether all freed ids are.
+    fn all_freed(&self) -> Result<(), Fault>
+        ensures { Tests (word self.now.bs.now) result (AllGood (word self.now.bs.now) self.now.low self.now.next self.now.k) }
+    {
+        for i in 0..self.k {
+            self.freed(i)?;
+        }
+        Ok(())
+    }
+
+    // Gives the freed ids back.
+    fn give(&self, mem: &mut [u64])
+        requires { (i : ℕ) → i < self.now.k → word self.now.bs.now (7 + i) < 2 ^ 32 }
+        ensures { Gives (word self.now.bs.now) self.now.k mem.old mem.new }
+    {
+        for i in 0..self.k {
+            let _ = ids::free(mem, octets::get(self.bs, 7 + i) as u32);
+        }
+    }
 }
 
 // Whether an allocator is made of the numbers and the words of a frame.
-fn examine(bs: &[u8], low: u64, high: u64, next: u64, k: usize) -> Found
-    requires { Frame kind low high next k bs.now }
-    ensures { Tests (word bs.now) result (Sensible (word bs.now) low high next k) }
+fn examine(bs: &[u8], opened: Opened) -> Result<(), Fault>
+    requires { Frame kind opened.first opened.second opened.third opened.words bs.now }
+    ensures { Tests (word bs.now) result (Sensible (word bs.now) opened.first opened.second opened.third opened.words) }
 {
-    if high < low {
-        return Found::Wrong {
-            flaw: Flaw::Bounds,
-            place: 24,
-        };
+    let Opened {
+        first: low,
+        second: high,
+        third: next,
+        words: k,
+    } = opened;
+    if high < low || 0xffff_ffff < high {
+        return Err(Fault::at(Flaw::Bounds, 24));
     }
-    if 0xffff_ffff < high {
-        return Found::Wrong {
-            flaw: Flaw::Bounds,
-            place: 24,
-        };
+    if next < low || high + 1 < next {
+        return Err(Fault::at(Flaw::Bounds, 32));
     }
-    if next < low {
-        return Found::Wrong {
-            flaw: Flaw::Bounds,
-            place: 32,
-        };
-    }
-    if high + 1 < next {
-        return Found::Wrong {
-            flaw: Flaw::Bounds,
-            place: 32,
-        };
-    }
-    all_freed(bs, low, next, k)
+    FreedIds { bs, low, next, k }.all_freed()
 }
 
 // Grants the n lowest ids.
 fn grant(mem: &mut [u64], n: u64)
     ensures { Grants mem.old n mem.new }
 {
-    let mut i = 0;
-    while i < n {
-        ids::allocate(mem);
-        i += 1;
-    }
-}
-
-// Gives the k freed ids back.
-fn give(bs: &[u8], mem: &mut [u64], k: usize)
-    requires k_in_bounds { 64 + 8 * k ≤ length bs.now }
-    requires by_index { (i : ℕ) → i < k → word bs.now (7 + i) < 2 ^ 32 }
-    ensures { Gives (word bs.now) k mem.old mem.new }
-{
-    let mut i = 0;
-    while i < k {
-        let id = octets::get(bs, 7 + i);
-        ids::free(mem, id as u32);
-        i += 1;
+    for _ in 0..n {
+        let _ = ids::allocate(mem);
     }
 }
 
 // Makes the allocator, which the bytes say, in the block.
-fn remake(bs: &[u8], mem: &mut [u64], low: u64, high: u64, next: u64, k: usize) -> Loaded
-    requires frame { Frame kind low high next k bs.now }
-    requires sensible { Sensible (word bs.now) low high next k }
+fn remake(bs: &[u8], mem: &mut [u64], opened: Opened) -> Result<usize, LoadError>
+    requires frame { Frame kind opened.first opened.second opened.third opened.words bs.now }
+    requires sensible { Sensible (word bs.now) opened.first opened.second opened.third opened.words }
     ensures { Loads bs.now mem.old result mem.new }
 {
-    let made = ids::new(mem, low as u32, high as u32);
-    if let Setup::Unfit(_) = made {
-        return Loaded::NoRoom;
+    let Opened {
+        first: low,
+        second: high,
+        third: next,
+        words: k,
+    } = opened;
+    if ids::new(mem, low as u32, high as u32).is_err() {
+        return Err(LoadError::NoRoom);
     }
     grant(mem, next - low);
-    give(bs, mem, k);
-    Loaded::Bytes(64 + 8 * k)
+    FreedIds { bs, low, next, k }.give(mem);
+    Ok(64 + 8 * k)
 }
 
 // Makes the block hold the id allocator with which the bytes begin, and answers how many bytes those are; what is behind them is not
 // looked at. Refused where they begin with none that any sequence of operations could have made, with what is wrong and where; "no
 // room" where the block is too short. After a refusal the block is word for word as it was.
-pub fn load(bs: &[u8], mem: &mut [u64]) -> Loaded
+pub fn load(bs: &[u8], mem: &mut [u64]) -> Result<usize, LoadError>
     ensures { Loads bs.now mem.old result mem.new }
 {
-    let opened = frame::read(bs, KIND);
-    match opened {
-        Opened::Bad { flaw, place } => Loaded::Refused { flaw, place },
-        Opened::Good {
-            first,
-            second,
-            third,
-            words,
-        } => {
-            let found = examine(bs, first, second, third, words);
-            if let Found::Wrong { flaw, place } = found {
-                return Loaded::Refused { flaw, place };
-            }
-            remake(bs, mem, first, second, third, words)
-        }
-    }
+    let opened = frame::read(bs, KIND)?;
+    examine(bs, opened)?;
+    remake(bs, mem, opened)
 }

@@ -5,16 +5,21 @@ use mathlib.Core.List.{List, [], ◌∷◌}
 use mathlib.Core.Bool.{Bool, true, false}
 use native.Mathlib.Decide.{ℕ_discrete, dec_lt}
 use native.Mathlib.Omega.{arith}
+use borrow.Author.Tests.{eq-eqb, ne_eqb}
+use Rattle.std.proofs.Common.{nat_eq}
 use lib.ListN.{length, get_or}
 use Rattle.ranges.specs.Align.{Decides}
-use Rattle.blocks.specs.Blocks.{count_of, blocks_of, limit_of, size_at, starts_of, tags_of, index, Sound, Bounded, Ready}
-use Rattle.blocks.proofs.Parts.{start_at}
+use Rattle.blocks.specs.Blocks.{count_of, blocks_of, limit_of, size_at, starts_at, starts_of, tags_of, index, Sound, Bounded, Ready}
 use Rattle.blocks.proofs.Flat.{flat_start, flat_within}
 use Rattle.spread.specs.Spread.{Turned, Nearly}
 use Rattle.splice.specs.Splice.{splice, Spliced}
 use Rattle.splice.proofs.Turns.{other_size, other_first, other_within, spliced_sound, spliced_blocks, spliced_starts, spliced_tags, spliced_total, first_behind}
 use Rattle.melting.specs.Melting.{Free, FreeBefore, Almost, Given}
 use Rattle.melting.proofs.Frees.{free_by, not_free, before_here, pos_here, before_there, before_none}
+
+-- what is answered by a test of a number against 0
+pub by_test : (x : ℕ) (P : Bool → Type 0) → (x ≡ 0 → P true) → ((x ≡ 0 → ⊥) → P false) → P (nat_eq x 0)
+by_test x P yes_ no_ = elim (ℕ_discrete x 0) [ yes z ↦ rw (eq-eqb x 0 z) (yes_ z) | no n ↦ rw (ne_eqb x 0 n) (no_ n) ]
 
 -- the answers of `free_before`
 module _ (m : List ℕ) (sound : Sound m) (b : ℕ) (h : b < blocks_of m) (i : ℕ) (t : i < size_at b m) where
@@ -101,9 +106,9 @@ module _ (m : List ℕ) (sound : Sound m) (nb b i lo hi : ℕ) (eb : nb ≡ bloc
       let w = flat_within m sound b (omega arith) i t in
       record { before = true; told = d; turned = give_turned m m₁ sound nb b i 1 lo hi eb h k (omega arith) [] [] (omega arith) s l₁ l₂ l₃ (omega (arith, s.count, d.0, a.total)) a m₂ f }
 
-  pub given_free : r ≡ false → (s : ℕ) → s ≡ get_or m (137 + b * 129 + i) 0 → Spliced m m₁ b i 1 (s ∷ []) (0 ∷ []) → Almost m b hi → Given m m₂ (index b i m)
+  pub given_free : r ≡ false → (s : ℕ) → s ≡ get_or (starts_at b m) i 0 → Spliced m m₁ b i 1 (s ∷ []) (0 ∷ []) → Almost m b hi → Given m m₂ (index b i m)
   given_free e s es u a =
       let d : (0 < index b i m) × Free m (index b i m - 1) → ⊥ = rw e at (told a) in
       let w = flat_within m sound b (omega arith) i t in
-      let q : get_or (starts_of m) (index b i m) 0 ≡ s = flat_start m sound b (omega arith) i 0 t ∙ start_at m sound b (omega arith) i 0 t ∙ sym es in
+      let q : get_or (starts_of m) (index b i m) 0 ≡ s = flat_start m sound b (omega arith) i 0 t ∙ sym es in
       record { before = false; told = d; turned = rw q (give_turned m m₁ sound nb b i 1 lo hi eb h k (omega arith) (s ∷ []) (0 ∷ []) (omega arith) u l₁ l₂ l₃ (omega (arith, u.count, a.total)) a m₂ f) }

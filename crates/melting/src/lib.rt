@@ -11,35 +11,20 @@ fn free_before(mem: &[u64], b: usize, i: usize) -> bool
     ensures { FreeBefore mem.now b i result }
 {
     if 0 < i {
-        if mem[201 + b * 129 + (i - 1)] == 0 {
-            return true;
-        }
-        return false;
+        return mem[201 + b * 129 + (i - 1)] == 0;
     }
     if b == 0 {
         return false;
     }
     let n = blocks::size_of(mem, b - 1);
-    if n == 0 {
-        return false;
-    }
-    if mem[201 + (b - 1) * 129 + (n - 1)] == 0 {
-        true
-    } else {
-        false
-    }
+    n != 0 && mem[201 + (b - 1) * 129 + (n - 1)] == 0
 }
 
 // The first block that ends elsewhere if range i of block b is given up.
 fn lowest(b: usize, i: usize) -> usize
     ensures { (result ≤ b) × (b ≤ result + 1) × (i ≡ 0 → 0 < b → result < b) }
 {
-    if i == 0 {
-        if 0 < b {
-            return b - 1;
-        }
-    }
-    b
+    if i == 0 { b.saturating_sub(1) } else { b }
 }
 
 // Gives range i of block b up, or makes it free where the one before it is not.
@@ -47,16 +32,13 @@ fn give(mem: &mut [u64], nb: usize, b: usize, i: usize, hi: usize)
     requires { Sound mem.old × (nb ≡ blocks_of mem.old) × (b < hi) × (hi ≤ nb) × (i < size_at b mem.old) }
     ensures { Almost mem.old b hi → Given mem.old mem.new (index b i mem.old) }
 {
-    let lo = lowest(b, i);
-    let s = mem[137 + b * 129 + i];
-    let before = free_before(mem, b, i);
-    if before {
+    if free_before(mem, b, i) {
         splice::shrink(mem, b, i, 1);
-        spread::finish(mem, nb, b, lo, hi);
-        return;
+    } else {
+        let s = blocks::start_of(mem, b, i);
+        splice::put(mem, b, i, s, 0);
     }
-    splice::put(mem, b, i, s, 0);
-    spread::finish(mem, nb, b, lo, hi);
+    spread::finish(mem, nb, b, lowest(b, i), hi);
 }
 
 // Gives the range behind range i of block b up, if it is free, and answers which block is the first that is as it was.
@@ -66,22 +48,13 @@ fn absorb(mem: &mut [u64], nb: usize, b: usize, i: usize) -> usize
 {
     let j = i + 1;
     let c = b + 1;
-    let n = blocks::size_of(mem, b);
-    if j < n {
-        if mem[201 + b * 129 + j] != 0 {
-            return c;
+    if j < blocks::size_of(mem, b) {
+        if mem[201 + b * 129 + j] == 0 {
+            splice::shrink(mem, b, j, 1);
         }
-        splice::shrink(mem, b, j, 1);
         return c;
     }
-    if nb <= c {
-        return c;
-    }
-    if mem[201 + c * 129] != 0 {
-        return c;
-    }
-    let k = blocks::size_of(mem, c);
-    if k == 0 {
+    if nb <= c || mem[201 + c * 129] != 0 || blocks::size_of(mem, c) == 0 {
         return c;
     }
     splice::shrink(mem, c, 0, 1);
@@ -94,25 +67,10 @@ fn last_of(mem: &[u64], nb: usize, b: usize, j: usize) -> u64
     ensures { get_or (starts_at b mem.now) (j + 1) (past_at b mem.now) ≤ result + 1 }
 {
     let k = j + 1;
-    let n = blocks::size_of(mem, b);
-    if k < n {
-        let next = blocks::start_of(mem, b, k);
-        if 0 < next {
-            return next - 1;
-        }
-        return 0;
+    if k < blocks::size_of(mem, b) {
+        return blocks::start_of(mem, b, k).saturating_sub(1);
     }
     blocks::end_of_block(mem, nb, b)
-}
-
-// How far it is from s to e; 0 where e is below s.
-fn reach(s: u64, e: u64) -> u64
-    ensures { e ≤ s + result }
-{
-    if e < s {
-        return 0;
-    }
-    e - s
 }
 
 // Gives range i of block b back, which is neither the first nor the last of its block. That block alone changes, and its other ranges keep
@@ -132,21 +90,21 @@ fn inside(mem: &mut [u64], nb: usize, b: usize, i: usize)
         if before != 0 {
             splice::shrink(mem, b, q, 1);
             splice::put(mem, b, i, s, 0);
-            spread::raise(mem, b, reach(s, e));
+            spread::raise(mem, b, e.saturating_sub(s));
             return;
         }
         splice::shrink(mem, b, i, 2);
-        spread::raise(mem, b, reach(f, e));
+        spread::raise(mem, b, e.saturating_sub(f));
         return;
     }
     let e = last_of(mem, nb, b, i);
     if before != 0 {
         splice::put(mem, b, i, s, 0);
-        spread::raise(mem, b, reach(s, e));
+        spread::raise(mem, b, e.saturating_sub(s));
         return;
     }
     splice::shrink(mem, b, i, 1);
-    spread::raise(mem, b, reach(f, e));
+    spread::raise(mem, b, e.saturating_sub(f));
 }
 
 // Gives range i of block b back.
@@ -154,12 +112,9 @@ pub fn melt(mem: &mut [u64], nb: usize, b: usize, i: usize)
     requires { Sound mem.old × (nb ≡ blocks_of mem.old) × (b < nb) × (i < size_at b mem.old) }
     ensures { Ready mem.old → Melted mem.old mem.new (index b i mem.old) }
 {
-    if 0 < i {
-        let n = blocks::size_of(mem, b);
-        if i + 1 < n {
-            inside(mem, nb, b, i);
-            return;
-        }
+    if 0 < i && i + 1 < blocks::size_of(mem, b) {
+        inside(mem, nb, b, i);
+        return;
     }
     let hi = absorb(mem, nb, b, i);
     give(mem, nb, b, i, hi);

@@ -7,7 +7,8 @@ use native.Mathlib.Omega.{arith}
 use lib.Dec.{ltb, eqb}
 use lib.ListN.{length, drop}
 use Rattle.numerals.specs.Numeral.{Meaning, means, wrong, digit, after, digits, is_hex, fitted, read}
-use Rattle.numerals.specs.declared.Value.TheVariants.{Number, NoDigit, TooLarge}
+use Rattle.std.proofs.Common.{Ok, Err}
+use Rattle.numerals.specs.declared.NoNumber.TheVariants.{NoDigit, TooLarge}
 
 after_place : (b n i j : ℕ) (s : List ℕ) → after b n i s ≡ wrong j → j ≤ i + length s
 after_place b n i j [] e = absurd (let z : ◌≡◌ {A = ℕ} 0 1 = cc in omega arith)
@@ -27,11 +28,11 @@ digits_place b i j (c ∷ s) e = go (ltb (digit c) b) e
     go true e = omega (arith, after_place b (digit c) (suc i) j s e)
     go false e = let q : i ≡ j = cc in omega arith
 
-fitted_place : (m : Meaning) (j : ℕ) → fitted m ≡ NoDigit j → m ≡ wrong j
+fitted_place : (m : Meaning) (j : ℕ) → fitted m ≡ Err (NoDigit j) → m ≡ wrong j
 fitted_place (wrong i) j e = let q : i ≡ j = cc in ap wrong q
 fitted_place (means n) j e = go (ltb n (2 ^ 64)) e
   where
-    go : (t : Bool) → cond t (Number n) TooLarge ≡ NoDigit j → means n ≡ wrong j
+    go : (t : Bool) → cond t (Ok n) (Err TooLarge) ≡ Err (NoDigit j) → means n ≡ wrong j
     go true e = absurd (let z : ◌≡◌ {A = ℕ} 0 1 = cc in omega arith)
     go false e = absurd (let z : ◌≡◌ {A = ℕ} 0 1 = cc in omega arith)
 
@@ -40,7 +41,7 @@ hex_place [] j h e = absurd (let z : ◌≡◌ {A = ℕ} 0 1 = cc in omega arith
 hex_place (c ∷ []) j h e = absurd (let z : ◌≡◌ {A = ℕ} 0 1 = cc in omega arith)
 hex_place (c ∷ (d ∷ s)) j h e = omega (arith, digits_place 16 2 j s e)
 
-pub read_place : (s : List ℕ) (j : ℕ) → read s ≡ NoDigit j → j ≤ length s
+pub read_place : (s : List ℕ) (j : ℕ) → read s ≡ Err (NoDigit j) → j ≤ length s
 read_place s j e = go (is_hex s) refl (fitted_place _ j e)
   where
     go : (t : Bool) → is_hex s ≡ t → cond t (digits 16 2 (drop 2 s)) (digits 10 0 (drop 0 s)) ≡ wrong j → j ≤ length s

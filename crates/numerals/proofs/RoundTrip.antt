@@ -11,7 +11,7 @@ use lib.ListN.{length, length-append}
 use borrow.Author.Tests.{ltb-true, lt-ltb, ne_eqb}
 use Rattle.numerals.specs.Numeral.{means, wrong, digit, after, digits, is_hex, fitted, read}
 use Rattle.numerals.specs.Spelled.{glyph, spell, decimal, hexadecimal}
-use Rattle.numerals.specs.declared.Value.TheVariants.{Number}
+use Rattle.std.proofs.Common.{Ok}
 use Rattle.numerals.proofs.Spelling.{fixed, spell_fixed, twenty, quotient, first}
 use Rattle.numerals.proofs.Plain.{AllPlain, glyph_plain, digit_glyph, spell_plain, spell_some}
 
@@ -76,16 +76,16 @@ plain_not_hex (c ∷ (d ∷ s)) w = go (eqb c 48)
     go true = ne_eqb d 120 (λ e. omega (arith, w.1.0.1))
     go false = refl
 
-fits : (n : ℕ) → n < 2 ^ 64 → fitted (means n) ≡ Number n
+fits : (n : ℕ) → n < 2 ^ 64 → fitted (means n) ≡ Ok n
 fits n h = rw (lt-ltb n (2 ^ 64) h)
 
-pub decimal_reads : (n : ℕ) → n < 2 ^ 64 → read (decimal n) ≡ Number n
+pub decimal_reads : (n : ℕ) → n < 2 ^ 64 → read (decimal n) ≡ Ok n
 unfolding decimal
 decimal_reads n h =
     let e : is_hex (spell 10 20 n) ≡ false = plain_not_hex (spell 10 20 n) (spell_plain 10 20 n (omega arith) (omega arith)) in
     ap (λ (t : Bool). fitted (cond t (digits 16 2 (lib.ListN.drop 2 (spell 10 20 n))) (digits 10 0 (spell 10 20 n)))) e
     ∙ ap fitted (spell_means 10 0 n (omega arith) (omega arith) h) ∙ fits n h
 
-pub hexadecimal_reads : (n : ℕ) → n < 2 ^ 64 → read (hexadecimal n) ≡ Number n
+pub hexadecimal_reads : (n : ℕ) → n < 2 ^ 64 → read (hexadecimal n) ≡ Ok n
 unfolding hexadecimal
 hexadecimal_reads n h = ap fitted (spell_means 16 2 n (omega arith) (omega arith) h) ∙ fits n h

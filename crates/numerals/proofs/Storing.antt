@@ -4,8 +4,12 @@ use mathlib.Core.List.{List, [], ◌∷◌, ◌++◌, append_assoc, append-nil}
 use Prim.Native.Nat.{ℕ, suc, ◌+◌, ◌-◌, ◌/◌, ◌%◌, ◌≤◌, ◌<◌}
 use native.Mathlib.Nat.{le_refl}
 use native.Mathlib.Omega.{arith}
-use lib.ListN.{length, take, drop, set, get_or, length-set, take-append-drop}
-use lib.Seq.{take-suc, set_at, length-take-le, take-suc-set, drop-set-lt}
+use lib.ListN.{length, take, drop, set, get_or, length-set, length-append}
+use lib.Seq.{take-suc, take_all, set_at, length-take-le, drop-drop}
+use borrow.Rule.Slice.PartMut.{put_mid}
+use Rattle.std.proofs.Common.{Option, Some, None}
+use Rattle.text.specs.Stored.{Puts}
+use Rattle.text.proofs.Stores.{puts_length, puts_then}
 use Rattle.numerals.specs.Spelled.{glyph, spell}
 use Rattle.numerals.proofs.Spelling.{fixed, fixed_step, spell_fixed}
 
@@ -16,67 +20,58 @@ set_last l x j g h =
     ∙ ap (λ (f : List ℕ). set f j g) (append_assoc (take j l) (get_or l j 0 ∷ []) x)
     ∙ set_at (take j l) (get_or l j 0) x g j (length-take-le j l (omega arith))
 
--- two bytes stored behind a front
-pub take_two : (l : List ℕ) (at x y : ℕ) → at + 2 ≤ length l → take (at + 2) (set (set l at x) (at + 1) y) ≡ take at l ++ (x ∷ (y ∷ []))
-take_two l at x y h =
-    let e : at + 2 ≡ suc (suc at) = omega arith in
-    let f : at + 1 ≡ suc at = omega arith in
-    rw e (rw f (
-    take-suc-set (set l at x) (suc at) y (omega (arith, length-set l at x))
-    ∙ ap (λ (z : List ℕ). z ++ (y ∷ [])) (take-suc-set l at x (omega arith))
-    ∙ append_assoc (take at l) (x ∷ []) (y ∷ [])))
-
--- and what is behind them
-pub drop_two : (l : List ℕ) (at k x y : ℕ) → at + 2 ≤ k → drop k (set (set l at x) (at + 1) y) ≡ drop k l
-drop_two l at k x y h = drop-set-lt k (set l at x) (at + 1) y (omega arith) ∙ drop-set-lt k l at x (omega arith)
-
 -- the text's digits so far: the last ones stand where they belong, the others are left to write
-pub record Filling (old : List ℕ) (at n b k : ℕ) (new : List ℕ) (i rest : ℕ) : Type 0 where
-  pub within : i ≤ k
+pub record Filling (old : List ℕ) (n b : ℕ) (new : List ℕ) (i rest : ℕ) : Type 0 where
+  pub within : i ≤ length old
   pub long : length new ≡ length old
   pub tail : List ℕ
   pub whole : fixed b i rest ++ tail ≡ spell b 20 n
-  pub stored : new ≡ take (at + i) old ++ (tail ++ drop (at + k) old)
+  pub stored : new ≡ take i old ++ tail
 
-pub filling_start : (old : List ℕ) (at n b k : ℕ) → k ≡ length (spell b 20 n) → Filling old at n b k old k n
-filling_start old at n b k e =
+pub filling_start : (old : List ℕ) (n b : ℕ) → length old ≡ length (spell b 20 n) → Filling old n b old (length old) n
+filling_start old n b e =
     record {
-      within = le_refl k;
+      within = le_refl (length old);
       long = refl;
       tail = [];
-      whole = append-nil (fixed b k n) ∙ ap (λ (x : ℕ). fixed b x n) e ∙ sym (spell_fixed b 20 n);
-      stored = sym (take-append-drop (at + k) old);
+      whole = append-nil (fixed b (length old) n) ∙ ap (λ (x : ℕ). fixed b x n) e ∙ sym (spell_fixed b 20 n);
+      stored = sym (append-nil (take (length old) old) ∙ take_all (length old) old (le_refl (length old)));
     }
 
-pub filling_step : (old : List ℕ) (at n b k : ℕ) (new : List ℕ) (i rest g : ℕ) → 0 < i → g ≡ glyph (rest % b) → at + k ≤ length old →
-    Filling old at n b k new i rest → Filling old at n b k (set new (at + (i - 1)) g) (i - 1) (rest / b)
-filling_step old at n b k new i rest g p e h w =
-    let s : at + i ≡ suc (at + (i - 1)) = omega arith in
+pub filling_step : (old : List ℕ) (n b : ℕ) (new : List ℕ) (i rest g : ℕ) → 0 < i → g ≡ glyph (rest % b) →
+    Filling old n b new i rest → Filling old n b (set new (i - 1) g) (i - 1) (rest / b)
+filling_step old n b new i rest g p e w =
+    let s : i ≡ suc (i - 1) = omega arith in
     record {
       within = omega (arith, w.within);
-      long = length-set new (at + (i - 1)) g ∙ w.long;
+      long = length-set new (i - 1) g ∙ w.long;
       tail = g ∷ w.tail;
       whole =
           rw e (sym (append_assoc (fixed b (i - 1) (rest / b)) (glyph (rest % b) ∷ []) w.tail)
           ∙ ap (λ (x : List ℕ). x ++ w.tail) (sym (fixed_step b i rest p)) ∙ w.whole);
       stored =
-          ap (λ (x : List ℕ). set x (at + (i - 1)) g) (w.stored ∙ ap (λ (x : ℕ). take x old ++ (w.tail ++ drop (at + k) old)) s)
-          ∙ set_last old (w.tail ++ drop (at + k) old) (at + (i - 1)) g (omega (arith, w.within));
+          ap (λ (x : List ℕ). set x (i - 1) g) (w.stored ∙ ap (λ (x : ℕ). take x old ++ w.tail) s)
+          ∙ set_last old w.tail (i - 1) g (omega (arith, w.within));
     }
 
-pub filling_end : (old : List ℕ) (at n b k : ℕ) (new : List ℕ) (i rest : ℕ) → i ≡ 0 →
-    Filling old at n b k new i rest → new ≡ take at old ++ (spell b 20 n ++ drop (at + k) old)
-filling_end old at n b k new i rest z w =
-    let t : w.tail ≡ spell b 20 n = subst (λ (x : ℕ). fixed b x rest ++ w.tail ≡ spell b 20 n) z w.whole in
-    let a : at + i ≡ at = omega arith in
-    w.stored ∙ rw (a, t)
+pub filling_end : (old : List ℕ) (n b : ℕ) (new : List ℕ) (rest : ℕ) → Filling old n b new 0 rest → new ≡ spell b 20 n
+filling_end old n b new rest w = w.stored ∙ w.whole
 
--- a text behind `0x` that is stored first
-pub hex_stored : (old new t : List ℕ) (at m : ℕ) → at + 2 ≤ length old → at + 2 ≤ m →
-    new ≡ take (at + 2) (set (set old at 48) (at + 1) 120) ++ (t ++ drop m (set (set old at 48) (at + 1) 120)) →
-    new ≡ take at old ++ ((48 ∷ (120 ∷ t)) ++ drop m old)
-hex_stored old new t at m h l e =
-    e
-    ∙ ap (λ (x : List ℕ). x ++ (t ++ drop m (set (set old at 48) (at + 1) 120))) (take_two old at 48 120 h)
-    ∙ ap (λ (x : List ℕ). (take at old ++ (48 ∷ (120 ∷ []))) ++ (t ++ x)) (drop_two old at m 48 120 l)
-    ∙ append_assoc (take at old) (48 ∷ (120 ∷ [])) (t ++ drop m old)
+-- a text put behind another that was put first
+pub put_behind : (p t old mid part new : List ℕ) (at start e : ℕ) → Puts p at old mid (Some start) → part ≡ t → length t ≡ e - start → start ≤ e → e ≤ length old →
+    new ≡ put_mid start (e - start) mid part → Puts (p ++ t) at old new (Some e)
+put_behind p t old mid part new at start e w q l h k n =
+    let m : length mid ≡ length old = puts_length p old mid at start w in
+    puts_then p t old mid new at start e w (
+      omega (arith, m),
+      omega arith,
+      n ∙ ap (λ (x : List ℕ). take start mid ++ (x ++ drop (e - start) (drop start mid))) q
+          ∙ ap (λ (x : List ℕ). take start mid ++ (t ++ x)) (drop-drop (e - start) start mid)
+          ∙ ap (λ (x : ℕ). take start mid ++ (t ++ drop x mid)) (let s : start + (e - start) ≡ e = omega arith in s),
+    )
+
+-- two texts that do not fit, one behind the other
+pub no_place : (p t old : List ℕ) (at k : ℕ) (r : Option ℕ) → r ≡ None → k ≡ length t → length old < at + (length p + k) → Puts (p ++ t) at old old r
+no_place p t old at k r e q h =
+    let n : length old < at + length (p ++ t) = omega (arith, length-append p t) in
+    subst (Puts (p ++ t) at old old) (sym e) (n, refl)

@@ -1,7 +1,7 @@
 -- What a numeral means: decimal digits, or `0x` and hexadecimal ones, with `_` anywhere after the first digit.
-use Rattle.std.specs.Prelude.{Bool, true, false, cond, List, [], ◌∷◌, ℕ, suc, ◌+◌, ◌-◌, ◌*◌, ◌^◌, ltb, eqb, drop}
-use Rattle.numerals.specs.declared.Value.{Value}
-use Rattle.numerals.specs.declared.Value.TheVariants.{Number, NoDigit, TooLarge}
+use Rattle.std.specs.Prelude.{Bool, false, cond, List, [], ◌∷◌, ℕ, suc, ◌+◌, ◌-◌, ◌*◌, ◌^◌, ltb, eqb, drop, Result, Ok, Err}
+use Rattle.numerals.specs.declared.NoNumber.{NoNumber}
+use Rattle.numerals.specs.declared.NoNumber.TheVariants.{NoDigit, TooLarge}
 
 -- the digit that a byte stands for, 0 to 9, a to f and A to F; 16 for a byte that is none
 unfoldable pub digit : ℕ → ℕ
@@ -42,10 +42,10 @@ abbrev pub numeral : List ℕ → Meaning
 numeral s = cond (is_hex s) (digits 16 2 (drop 2 s)) (digits 10 0 (drop 0 s))
 
 -- a number fits 64 bits or is too large
-abbrev pub fitted : Meaning → Value
-fitted (means n) = cond (ltb n (2 ^ 64)) (Number n) TooLarge
-fitted (wrong i) = NoDigit i
+abbrev pub fitted : Meaning → Result ℕ NoNumber
+fitted (means n) = cond (ltb n (2 ^ 64)) (Ok n) (Err TooLarge)
+fitted (wrong i) = Err (NoDigit i)
 
 -- what reading a text answers
-abbrev pub read : List ℕ → Value
+abbrev pub read : List ℕ → Result ℕ NoNumber
 read s = fitted (numeral s)

@@ -2,177 +2,109 @@
 // Every public function is total: it demands nothing of its caller.
 #![tactic(auto)]
 
-ghost use Rattle.std.specs.Prelude.{◌≡◌, ℕ, ◌+◌, ◌*◌, ◌^◌, ◌<◌, ◌≤◌, length, take, drop, ◌++◌};
-ghost use Rattle.numerals.specs.Numeral.{is_hex, digits, fitted, read as read_of};
+ghost use Rattle.std.specs.Prelude.{◌≡◌, ◌<◌, ◌≤◌, ◌++◌, length, drop, SomeIff};
+ghost use Rattle.numerals.specs.Numeral.{digits, fitted, read as read_of};
 ghost use Rattle.numerals.specs.Numeral.{digit as digit_of};
 ghost use Rattle.text.specs.Stored.{Puts};
 ghost use Rattle.numerals.specs.Spelled.{spell};
 ghost use Rattle.numerals.specs.Spelled.{glyph as glyph_of, decimal as decimal_of, hexadecimal as hexadecimal_of};
-ghost use Rattle.numerals.specs.Steps.{Counted, stepped};
+ghost use Rattle.numerals.specs.Steps.{Counted, added};
 
-use text::Placed;
-
-// What a text says as a number.
+// Why a text says no number.
 #[derive(Clone, Copy)]
-pub enum Value {
-    Number(u64),
+pub enum NoNumber {
     // It is no numeral: a digit is wanted at this place.
     NoDigit(usize),
     // It is a numeral, and what it means does not fit 64 bits.
     TooLarge,
 }
 
-// The digits so far: their number, or that it does not fit, or a byte that is no digit.
-#[derive(Clone, Copy)]
-enum Sum {
-    Fits(u64),
-    Large,
-    Stopped,
-}
-
 // The number that the text means: decimal digits, or 0x and hexadecimal ones of either case, with
 // `_` anywhere after the first digit.
-pub fn read(s: &[u8]) -> Value
+pub fn read(s: &[u8]) -> Result<u64, NoNumber>
     ensures { result ≡ read_of s.now }
 {
-    if starts_hex(s) {
+    if s.starts_with(b"0x") {
         read_digits(s, 2, 16)
     } else {
         read_digits(s, 0, 10)
     }
 }
 
-fn starts_hex(s: &[u8]) -> bool
-    ensures { result ≡ is_hex s.now }
-{
-    if s.len() < 2 {
-        return false;
-    }
-    if s[0] != b'0' {
-        return false;
-    }
-    if s[1] != b'x' {
-        return false;
-    }
-    true
-}
-
-fn read_digits(s: &[u8], from: usize, base: u64) -> Value
+fn read_digits(s: &[u8], from: usize, base: u32) -> Result<u64, NoNumber>
     requires lt_base { 1 < base }
     requires base_bound { base ≤ 16 }
     ensures { result ≡ fitted (digits base from (drop from s.now)) }
 {
     if s.len() <= from {
-        return Value::NoDigit(from);
+        return Err(NoNumber::NoDigit(from));
     }
-    let d = digit(s[from]);
-    if base <= d {
-        return Value::NoDigit(from);
-    }
-    let mut sum = Sum::Fits(d);
-    let mut i = from + 1;
-    while i < s.len() {
-        let next = step(sum, base, s[i]);
-        if let Sum::Stopped = next {
-            return Value::NoDigit(i);
+    let first = digit(s[from], base).ok_or(NoNumber::NoDigit(from))?;
+    // None once it does not fit 64 bits.
+    let mut sum = Some(u64::from(first));
+    for i in from + 1..s.len() {
+        if s[i] != b'_' {
+            let d = digit(s[i], base).ok_or(NoNumber::NoDigit(i))?;
+            sum = with_digit(sum, base, d);
         }
-        sum = next;
-        i += 1;
     }
-    match sum {
-        Sum::Fits(n) => Value::Number(n),
-        Sum::Large => Value::TooLarge,
-        Sum::Stopped => Value::TooLarge,
-    }
+    sum.ok_or(NoNumber::TooLarge)
 }
 
-// One more byte.
-fn step(sum: Sum, base: u64, c: u8) -> Sum
-    requires { 1 < base }
-    ensures { result ≡ stepped sum base c }
+// The sum with one more digit.
+fn with_digit(sum: Option<u64>, base: u32, d: u32) -> Option<u64>
+    ensures { result ≡ added sum base d }
 {
-    if c == b'_' {
-        return sum;
-    }
-    let d = digit(c);
-    if base <= d {
-        return Sum::Stopped;
-    }
-    match sum {
-        Sum::Fits(n) => {
-            if n <= (u64::MAX - d) / base {
-                Sum::Fits(n * base + d)
-            } else {
-                Sum::Large
-            }
-        }
-        Sum::Large => Sum::Large,
-        Sum::Stopped => Sum::Stopped,
-    }
+    sum?.checked_mul(u64::from(base))?.checked_add(u64::from(d))
 }
 
-// The digit that a byte stands for, 16 for none.
-fn digit(c: u8) -> u64
-    ensures { result ≡ digit_of c }
+// The digit that a byte stands for.
+fn digit(c: u8, base: u32) -> Option<u32>
+    requires lt_base { 1 < base }
+    requires base_bound { base ≤ 16 }
+    ensures { SomeIff result (digit_of c < base) (digit_of c) }
 {
-    if c < 48 {
-        return 16;
-    }
-    if c < 58 {
-        return (c - 48) as u64;
-    }
-    if c < 65 {
-        return 16;
-    }
-    if c < 71 {
-        return (c - 55) as u64;
-    }
-    if c < 97 {
-        return 16;
-    }
-    if c < 103 {
-        return (c - 87) as u64;
-    }
-    16
+    (c as char).to_digit(base)
 }
 
-// Puts n's decimal digits into `out` from `at` on.
-pub fn decimal(out: &mut [u8], at: usize, n: u64) -> Placed
+// Puts n's decimal digits into `out` from `at` on, and answers the place behind them; None where they
+// do not fit, when nothing is changed.
+#[tactic(auto, unfolding(crate::specs::Spelled::decimal))]
+pub fn decimal(out: &mut [u8], at: usize, n: u64) -> Option<usize>
     ensures { Puts (decimal_of n) at out.old out.new result }
 {
-    let k = width(n, 10);
-    if out.len() < at {
-        return Placed::NoRoom;
-    }
-    if out.len() - at < k {
-        return Placed::NoRoom;
-    }
-    fill(out, at, n, 10, k);
-    Placed::Next(at + k)
+    put_digits(out, at, b"", n, 10)
 }
 
-// Puts 0x and n's hexadecimal digits into `out` from `at` on.
-pub fn hexadecimal(out: &mut [u8], at: usize, n: u64) -> Placed
+// Puts 0x and n's hexadecimal digits, as `decimal` does.
+#[tactic(auto, unfolding(crate::specs::Spelled::hexadecimal))]
+pub fn hexadecimal(out: &mut [u8], at: usize, n: u64) -> Option<usize>
     ensures { Puts (hexadecimal_of n) at out.old out.new result }
 {
-    let k = width(n, 16);
-    if out.len() < at {
-        return Placed::NoRoom;
-    }
-    if out.len() - at < k + 2 {
-        return Placed::NoRoom;
-    }
-    out[at] = b'0';
-    out[at + 1] = b'x';
-    fill(out, at + 2, n, 16, k);
-    Placed::Next(at + 2 + k)
+    put_digits(out, at, b"0x", n, 16)
 }
 
 // How many bytes `hexadecimal` puts for n.
+#[tactic(auto, unfolding(crate::specs::Spelled::hexadecimal))]
 pub fn hexadecimal_len(n: u64) -> usize
     ensures { result ≡ length (hexadecimal_of n) }
 {
     width(n, 16) + 2
+}
+
+// Puts n's digits behind a prefix.
+fn put_digits(out: &mut [u8], at: usize, prefix: &[u8], n: u64, base: u64) -> Option<usize>
+    requires le_base { 10 ≤ base }
+    requires base_bound { base ≤ 16 }
+    ensures { Puts (prefix.now ++ spell base 20 n) at out.old out.new result }
+{
+    let end = at.checked_add(prefix.len() + width(n, base))?;
+    if out.len() < end {
+        return None;
+    }
+    let start = text::put(out, at, prefix)?;
+    fill(&mut out[start..end], n, base);
+    Some(end)
 }
 
 // How many digits n has.
@@ -182,6 +114,7 @@ fn width(n: u64, base: u64) -> usize
 {
     let mut k = 1;
     let mut rest = n;
+    // A while: what ends it is the rest, and no index runs.
     while rest >= base {
         rest /= base;
         k += 1;
@@ -189,19 +122,16 @@ fn width(n: u64, base: u64) -> usize
     k
 }
 
-// Puts the k digits of n at `at`, the last one first.
-fn fill(out: &mut [u8], at: usize, n: u64, base: u64, k: usize)
+// Puts n's digits into as many bytes, the last one first.
+fn fill(out: &mut [u8], n: u64, base: u64)
     requires le_base { 10 ≤ base }
     requires base_bound { base ≤ 16 }
-    requires counted { Counted base n k }
-    requires k_in_bounds { at + k ≤ length out.old }
-    ensures { out.new ≡ take at out.old ++ (spell base 20 n ++ drop (at + k) out.old) }
+    requires counted { Counted base n (length out.old) }
+    ensures { out.new ≡ spell base 20 n }
 {
-    let mut i = k;
     let mut rest = n;
-    while i > 0 {
-        i -= 1;
-        out[at + i] = glyph(rest % base);
+    for i in (0..out.len()).rev() {
+        out[i] = glyph(rest % base);
         rest /= base;
     }
 }
@@ -210,5 +140,9 @@ fn glyph(d: u64) -> u8
     requires { d < 16 }
     ensures { result ≡ glyph_of d }
 {
-    if d < 10 { 48 + d as u8 } else { 87 + d as u8 }
+    if d < 10 {
+        b'0' + d as u8
+    } else {
+        b'a' - 10 + d as u8
+    }
 }

@@ -5,7 +5,6 @@
 --     put_word         after `put` every other word is as it was
 use Rattle.std.proofs.Common.{◌≡◌, ℕ, zero, suc, ◌+◌, ◌*◌, ◌^◌, ◌<◌, ◌≤◌, ◌⊎◌, List, get_or, sym, subst, inl, inr, ⊎_elim, arith}
 use Rattle.octets.specs.Octets.{two, four, eight, word, Bytes, Puts}
-use Rattle.octets.proofs.Stores.{eight_local}
 
 -- one of two numbers is below the other, or not
 pub below_or_not : (a b : ℕ) → (a < b) ⊎ (b ≤ a)
@@ -24,6 +23,22 @@ four_below bs k b = omega (arith, two_below bs k b, two_below bs (k + 2) b)
 eight_below : (bs : List ℕ) (k : ℕ) → Bytes bs → eight bs k < 2 ^ 64
 unfolding eight
 eight_below bs k b = omega (arith, four_below bs k b, four_below bs (k + 4) b)
+
+-- a rule that reads the n bytes from k on and nothing else
+abbrev Local : (List ℕ → ℕ → ℕ) → ℕ → Type 0
+Local value n = (a b : List ℕ) (k : ℕ) → ((j : ℕ) → k ≤ j → j < k + n → get_or a j 0 ≡ get_or b j 0) → value a k ≡ value b k
+
+two_local : Local two 2
+unfolding two
+two_local a b k e = omega (arith, e k (omega arith) (omega arith), e (k + 1) (omega arith) (omega arith))
+
+four_local : Local four 4
+unfolding four
+four_local a b k e = omega (arith, two_local a b k (λ j l h. e j l (omega arith)), two_local a b (k + 2) (λ j l h. e j (omega arith) (omega arith)))
+
+eight_local : Local eight 8
+unfolding eight
+eight_local a b k e = omega (arith, four_local a b k (λ j l h. e j l (omega arith)), four_local a b (k + 4) (λ j l h. e j (omega arith) (omega arith)))
 
 pub word_below : (bs : List ℕ) (i : ℕ) → Bytes bs → word bs i < 2 ^ 64
 unfolding word

@@ -27,12 +27,6 @@ check w (suc n) = (3 * check w n + w n) % 2 ^ 64
 abbrev pub Bytes : List ℕ → Type 0
 Bytes bs = (k : ℕ) → slice_index bs k < 256
 
--- the n bytes from k on now say x by the rule `value`, and no other byte is changed
-pub record Stores (value : List ℕ → ℕ → ℕ) (n : ℕ) (bs : List ℕ) (k x : ℕ) (bs' : List ℕ) : Type 0 where
-  pub long : length bs' ≡ length bs
-  pub says : value bs' k ≡ x
-  pub other : (j : ℕ) → (j < k) ⊎ (k + n ≤ j) → slice_index bs' j ≡ slice_index bs j
-
 -- what `get` answers: word i, where the bytes have it
 abbrev pub Gets : List ℕ → ℕ → ℕ → Type 0
 Gets bs i r = 8 * i + 8 ≤ length bs → r ≡ word bs i

@@ -10,7 +10,7 @@ use Prim.Native.Nat.{ℕ, zero, suc, ◌+◌, ◌*◌, ◌/◌, ◌%◌, ◌≤�
 use native.Mathlib.Nat.{div-add-mod, mod-lt, mul-le-mul_right, suc-mul}
 use native.Mathlib.Omega.{arith}
 use lib.Dec.{ltb}
-use borrow.Author.Tests.{ltb-true, ltb-false, lt-ltb}
+use borrow.Author.Tests.{ltb-true, ltb-false}
 use Rattle.picture.specs.Bar.{size_of, before}
 
 -- one number is below another, or it is not
@@ -20,10 +20,6 @@ below_or_not x y = go (ltb x y) refl
     go : (t : Bool) → ltb x y ≡ t → (x < y) ⊎ (y ≤ x)
     go true e = inl (ltb-true x y e)
     go false e = inr (ltb-false x y e)
-
--- the first r cells have one more
-pub size_more : (q r i : ℕ) → i < r → size_of q r i ≡ q + 1
-size_more q r i h = rw (lt-ltb i r h)
 
 pub before_zero : (n w : ℕ) → before n w 0 ≡ 0
 unfolding before

@@ -1,16 +1,16 @@
 -- Painting cell by cell: those before i are painted, the others as they were. Assumes nothing.
 use mathlib.Core.Path.{◌≡◌, refl, sym, ap, ◌∙◌, subst}
-use mathlib.Core.Logic.{inl, ⊎_elim}
+use mathlib.Core.Logic.{⊎_elim}
 use mathlib.Core.Bool.{Bool, true, false}
-use mathlib.Core.List.{List, ◌∷◌, ◌++◌}
+use mathlib.Core.List.{List, ◌∷◌}
 use Prim.Native.Nat.{ℕ, suc, ◌+◌, ◌-◌, ◌/◌, ◌%◌, ◌≤◌, ◌<◌}
 use native.Mathlib.Omega.{arith}
 use native.Mathlib.Numerals.{add-one}
-use lib.ListN.{length, get_or, set, length-set, replicate, drop, get_or-replicate, length-replicate, get_or-append}
+use lib.ListN.{length, get_or, set, length-set}
 use lib.Seq.{get_or-set_same, get_or-set_other}
-use Rattle.picture.specs.Bar.{IsPool, size_of, before, Met, Says, Cleared, Painted, Touched}
+use Rattle.picture.specs.Bar.{IsPool, size_of, before, Met, Says, Painted, Touched}
 use Rattle.picture.proofs.Cells.{below_or_not, before_zero, before_suc}
-use Rattle.picture.proofs.Marks.{stretch, says_touched, says_missed}
+use Rattle.picture.proofs.Marks.{stretch, says_touched}
 
 pub record Painting (old : List ℕ) (base last s e : ℕ) (k : Bool) (new : List ℕ) (off i : ℕ) : Type 0 where
   pub long : length new ≡ length old
@@ -72,26 +72,3 @@ painting_end old base last s e k new off i p h w =
           (says_touched base last (length old) j s e ps (get_or old j 0) k (get_or new j 0) (w.done j (omega arith)) (v j m));
       elsewhere = λ n. absurd (n p);
     }
-
--- what is no pool, a stretch of nothing, and a bar of no cells
-pub painted_nowhere : (old : List ℕ) (base last s e : ℕ) (k : Bool) → (IsPool base last → ⊥) → Painted base last s e k old old
-painted_nowhere old base last s e k n = record { shows = λ p. absurd (n p); elsewhere = λ _. refl }
-
-pub painted_nothing : (old : List ℕ) (base last s e : ℕ) (k : Bool) → e < s → Painted base last s e k old old
-painted_nothing old base last s e k h =
-    record {
-      shows = λ p ps v j l. says_missed base last (length old) j s e ps (get_or old j 0) k (λ x c a b. omega arith) (v j l);
-      elsewhere = λ _. refl;
-    }
-
-pub painted_empty : (old : List ℕ) (base last s e : ℕ) (k : Bool) → length old ≡ 0 → Painted base last s e k old old
-painted_empty old base last s e k z = record { shows = λ p ps v j l. absurd (omega arith); elsewhere = λ _. refl }
-
--- a bar of blanks
-pub cleared : (bar : List ℕ) (n : ℕ) → length bar ≤ n → (new : List ℕ) → length new ≡ length bar → new ≡ replicate n 32 ++ drop n bar → Cleared new
-cleared bar n h new l e base last i m =
-    inl (
-      ap (λ (b : List ℕ). get_or b i 0) e ∙ get_or-append (replicate n 32) (drop n bar) 0 i (omega (arith, length-replicate {A = ℕ} n 32)) ∙ get_or-replicate n i 32 0 (omega arith),
-      (λ q. q.2),
-      (λ q. q.2),
-    )

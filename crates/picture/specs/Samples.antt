@@ -1,5 +1,5 @@
 -- Worked examples of the definitions, computed: ten addresses in four cells are three, three, two and two.
-use Rattle.std.specs.Prelude.{◌≡◌, refl, ℕ}
+use Rattle.std.specs.Prelude.{◌≡◌, refl}
 use Rattle.picture.specs.Bar.{before}
 
 second : before 10 4 1 ≡ 3

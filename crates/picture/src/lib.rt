@@ -9,41 +9,25 @@ ghost use Rattle.picture.specs.Bar.{Painted, Cleared, joined, size_of, Touched};
 pub fn clear(bar: &mut [u8])
     ensures { Cleared bar.new }
 {
-    let mut i = 0;
-    while i < bar.len() {
-        bar[i] = b' ';
-        i += 1;
-    }
+    bar.fill(b' ');
 }
 
 // Paints the stretch from `start` to `end`, both included, granted or free, into the bar of the pool
 // from `base` to `last`. A pair that is no pool changes nothing.
+// The pool and the stretch stay single numbers: C passes them so (`rk_bar_paint`), and `Painted` speaks of them so.
 pub fn paint(bar: &mut [u8], base: u64, last: u64, start: u64, end: u64, granted: bool)
     ensures { Painted base last start end granted bar.old bar.new }
 {
-    if last < base {
-        return;
-    }
-    if last - base == u64::MAX {
-        return;
-    }
-    if end < start {
-        return;
-    }
-    if bar.len() == 0 {
+    if last < base || last - base == u64::MAX || end < start || bar.is_empty() {
         return;
     }
     let n = last - base + 1;
     let w = bar.len() as u64;
-    let q = n / w;
-    let r = n % w;
-    let mut off: u64 = 0;
-    let mut i = 0;
-    while i < bar.len() {
-        let size = cell_size(q, r, i as u64);
-        bar[i] = touch(bar[i], base, off, size, start, end, granted);
+    let mut off = 0;
+    for (i, mark) in bar.iter_mut().enumerate() {
+        let size = cell_size(n / w, n % w, i as u64);
+        *mark = touch(*mark, base, off, size, start, end, granted);
         off += size;
-        i += 1;
     }
 }
 
@@ -66,33 +50,21 @@ fn touch(m: u8, base: u64, off: u64, size: u64, start: u64, end: u64, granted: b
     }
     let lo = base + off;
     let hi = lo + (size - 1);
-    if hi < start {
-        return m;
-    }
-    if end < lo {
+    if hi < start || end < lo {
         return m;
     }
     join(m, granted)
 }
 
 // A mark with one more kind of stretch in its cell.
+#[tactic(auto, unfolding(crate::specs::Bar::joined))]
 fn join(m: u8, granted: bool) -> u8
     ensures { result ≡ joined granted m }
 {
-    if granted {
-        if m == b' ' {
-            return b'#';
-        }
-        if m == b'.' {
-            return b'+';
-        }
-        return m;
+    match (m, granted) {
+        (b' ', true) => b'#',
+        (b' ', false) => b'.',
+        (b'.', true) | (b'#', false) => b'+',
+        _ => m,
     }
-    if m == b' ' {
-        return b'.';
-    }
-    if m == b'#' {
-        return b'+';
-    }
-    m
 }

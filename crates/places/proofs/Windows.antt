@@ -17,10 +17,6 @@ next_multiple k s m (q, e) l n =
     omega (arith, mul-le-mul_right k w)
 
 module _ (s to size k : ℕ) where
-  -- the range is too short
-  pub short_none : to < s + size → (b : ℕ) → Fits s to size k b → ⊥
-  short_none h b f = let g = f in omega arith
-
   -- s is a multiple
   pub low_here : s % k ≡ 0 → s + size ≤ to → Lowest s to size k s
   low_here e h = record { fits = record { multiple = mod_multiple s k e; above = omega arith; below = h }; least = λ b f. f.above }

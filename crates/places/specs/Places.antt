@@ -1,10 +1,6 @@
 -- Where a window fits, and what the searches answer. A window has more + 1 addresses and starts at a multiple of mask + 1; what is said holds where that is a power of two.
-use Rattle.std.specs.Prelude.{◌≡◌, ℕ, ◌+◌, ◌<◌, ◌≤◌, List, length, get_or, slice_index, slice_index_or}
+use Rattle.std.specs.Prelude.{◌≡◌, ℕ, ◌+◌, ◌<◌, ◌≤◌, Option, Some, None, List, length, get_or, slice_index, slice_index_or}
 use Rattle.ranges.specs.Align.{PowerOfTwo, Multiple}
-use Rattle.places.specs.declared.Fit.{Fit}
-use Rattle.places.specs.declared.Fit.TheVariants.{At, Nowhere}
-use Rattle.places.specs.declared.Span.{Span}
-use Rattle.places.specs.declared.Span.TheVariants.{Free, Taken}
 
 -- a window of `size` addresses from a on, a multiple of `align`, lies in the range from s up to, not including, `to`
 pub record Fits (s to size align a : ℕ) : Type 0 where
@@ -22,14 +18,14 @@ pub record Highest (s to size align a : ℕ) : Type 0 where
   pub greatest : (b : ℕ) → Fits s to size align b → b ≤ a
 
 -- what `fits_low` answers of the range from s to e
-unfoldable pub FitsLow : ℕ → ℕ → ℕ → ℕ → Fit → Type 0
-FitsLow s e more mask (At a) = PowerOfTwo (mask + 1) → Lowest s (e + 1) (more + 1) (mask + 1) a
-FitsLow s e more mask Nowhere = PowerOfTwo (mask + 1) → (b : ℕ) → Fits s (e + 1) (more + 1) (mask + 1) b → ⊥
+unfoldable pub FitsLow : ℕ → ℕ → ℕ → ℕ → Option ℕ → Type 0
+FitsLow s e more mask (Some a) = PowerOfTwo (mask + 1) → Lowest s (e + 1) (more + 1) (mask + 1) a
+FitsLow s e more mask None = PowerOfTwo (mask + 1) → (b : ℕ) → Fits s (e + 1) (more + 1) (mask + 1) b → ⊥
 
 -- what `fits_high` answers of the range from s to e
-unfoldable pub FitsHigh : ℕ → ℕ → ℕ → ℕ → Fit → Type 0
-FitsHigh s e more mask (At a) = PowerOfTwo (mask + 1) → Highest s (e + 1) (more + 1) (mask + 1) a
-FitsHigh s e more mask Nowhere = PowerOfTwo (mask + 1) → (b : ℕ) → Fits s (e + 1) (more + 1) (mask + 1) b → ⊥
+unfoldable pub FitsHigh : ℕ → ℕ → ℕ → ℕ → Option ℕ → Type 0
+FitsHigh s e more mask (Some a) = PowerOfTwo (mask + 1) → Highest s (e + 1) (more + 1) (mask + 1) a
+FitsHigh s e more mask None = PowerOfTwo (mask + 1) → (b : ℕ) → Fits s (e + 1) (more + 1) (mask + 1) b → ⊥
 
 -- the first address past range i of the starts ss, in a pool that ends with `last`
 abbrev pub past_at : List ℕ → ℕ → ℕ → ℕ
@@ -58,29 +54,29 @@ pub record HighestIn (ss ts : List ℕ) (last size align a : ℕ) : Type 0 where
   pub latest : (j b : ℕ) → index < j → Room ss ts last size align j b → ⊥
 
 -- what `scan_up` answers, where there are as many tags as starts
-unfoldable pub SearchUp : List ℕ → List ℕ → ℕ → ℕ → ℕ → Fit → Type 0
-SearchUp ss ts last more mask (At a) = length ss ≡ length ts → PowerOfTwo (mask + 1) → LowestIn ss ts last (more + 1) (mask + 1) a
-SearchUp ss ts last more mask Nowhere = length ss ≡ length ts → PowerOfTwo (mask + 1) → (j b : ℕ) → Room ss ts last (more + 1) (mask + 1) j b → ⊥
+unfoldable pub SearchUp : List ℕ → List ℕ → ℕ → ℕ → ℕ → Option ℕ → Type 0
+SearchUp ss ts last more mask (Some a) = length ss ≡ length ts → PowerOfTwo (mask + 1) → LowestIn ss ts last (more + 1) (mask + 1) a
+SearchUp ss ts last more mask None = length ss ≡ length ts → PowerOfTwo (mask + 1) → (j b : ℕ) → Room ss ts last (more + 1) (mask + 1) j b → ⊥
 
 -- what `scan_down` answers, where there are as many tags as starts
-unfoldable pub SearchDown : List ℕ → List ℕ → ℕ → ℕ → ℕ → Fit → Type 0
-SearchDown ss ts last more mask (At a) = length ss ≡ length ts → PowerOfTwo (mask + 1) → HighestIn ss ts last (more + 1) (mask + 1) a
-SearchDown ss ts last more mask Nowhere = length ss ≡ length ts → PowerOfTwo (mask + 1) → (j b : ℕ) → Room ss ts last (more + 1) (mask + 1) j b → ⊥
+unfoldable pub SearchDown : List ℕ → List ℕ → ℕ → ℕ → ℕ → Option ℕ → Type 0
+SearchDown ss ts last more mask (Some a) = length ss ≡ length ts → PowerOfTwo (mask + 1) → HighestIn ss ts last (more + 1) (mask + 1) a
+SearchDown ss ts last more mask None = length ss ≡ length ts → PowerOfTwo (mask + 1) → (j b : ℕ) → Room ss ts last (more + 1) (mask + 1) j b → ⊥
 
 -- what `span_at` answers of range i: its ends; or it is granted, or has no end
-unfoldable pub Spans : List ℕ → List ℕ → ℕ → ℕ → Span → Type 0
-Spans ss ts last i (Free s e) = (slice_index ts i ≡ 0) × (s ≡ slice_index ss i) × (e + 1 ≡ past_at ss last i)
-Spans ss ts last i Taken = slice_index ts i ≡ 0 → past_at ss last i ≡ 0
+unfoldable pub Spans : List ℕ → List ℕ → ℕ → ℕ → Option (ℕ × ℕ) → Type 0
+Spans ss ts last i (Some (s, e)) = (slice_index ts i ≡ 0) × (s ≡ slice_index ss i) × (e + 1 ≡ past_at ss last i)
+Spans ss ts last i None = slice_index ts i ≡ 0 → past_at ss last i ≡ 0
 
 -- what `low_at` answers of range i
-unfoldable pub LowAt : List ℕ → List ℕ → ℕ → ℕ → ℕ → ℕ → Fit → Type 0
-LowAt ss ts last more mask i (At a) = PowerOfTwo (mask + 1) → (slice_index ts i ≡ 0) × Lowest (slice_index ss i) (past_at ss last i) (more + 1) (mask + 1) a
-LowAt ss ts last more mask i Nowhere = PowerOfTwo (mask + 1) → (b : ℕ) → Room ss ts last (more + 1) (mask + 1) i b → ⊥
+unfoldable pub LowAt : List ℕ → List ℕ → ℕ → ℕ → ℕ → ℕ → Option ℕ → Type 0
+LowAt ss ts last more mask i (Some a) = PowerOfTwo (mask + 1) → (slice_index ts i ≡ 0) × Lowest (slice_index ss i) (past_at ss last i) (more + 1) (mask + 1) a
+LowAt ss ts last more mask i None = PowerOfTwo (mask + 1) → (b : ℕ) → Room ss ts last (more + 1) (mask + 1) i b → ⊥
 
 -- what `high_at` answers of range i
-unfoldable pub HighAt : List ℕ → List ℕ → ℕ → ℕ → ℕ → ℕ → Fit → Type 0
-HighAt ss ts last more mask i (At a) = PowerOfTwo (mask + 1) → (slice_index ts i ≡ 0) × Highest (slice_index ss i) (past_at ss last i) (more + 1) (mask + 1) a
-HighAt ss ts last more mask i Nowhere = PowerOfTwo (mask + 1) → (b : ℕ) → Room ss ts last (more + 1) (mask + 1) i b → ⊥
+unfoldable pub HighAt : List ℕ → List ℕ → ℕ → ℕ → ℕ → ℕ → Option ℕ → Type 0
+HighAt ss ts last more mask i (Some a) = PowerOfTwo (mask + 1) → (slice_index ts i ≡ 0) × Highest (slice_index ss i) (past_at ss last i) (more + 1) (mask + 1) a
+HighAt ss ts last more mask i None = PowerOfTwo (mask + 1) → (b : ℕ) → Room ss ts last (more + 1) (mask + 1) i b → ⊥
 
 -- no free range from range `from` on and before range `to`, none of which is the last, has more than `more` addresses
 unfoldable pub Narrow : List ℕ → List ℕ → ℕ → ℕ → ℕ → Type 0

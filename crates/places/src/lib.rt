@@ -5,101 +5,35 @@
 ghost use Rattle.places.specs.Places.{FitsLow, FitsHigh, SearchUp, SearchDown, Spans, LowAt, HighAt, Narrow};
 ghost use Rattle.std.specs.Prelude.{◌≡◌, ◌+◌, ◌<◌, ◌≤◌, length};
 
-// Where a window goes.
-#[derive(Clone, Copy)]
-pub enum Fit {
-    At(u64),
-    Nowhere,
-}
-
 // The first place for the window in the range from s to e, both its own addresses.
-pub fn fits_low(s: u64, e: u64, more: u64, mask: u64) -> Fit
+#[tactic(auto, unfolding(crate::specs::Places::FitsLow))]
+pub fn fits_low(s: u64, e: u64, more: u64, mask: u64) -> Option<u64>
     ensures { FitsLow s e more mask result }
 {
-    if e < s {
-        return Fit::Nowhere;
-    }
-    let gap = e - s;
-    if gap < more {
-        return Fit::Nowhere;
-    }
-    let spare = gap - more;
+    let spare = e.checked_sub(s)?.checked_sub(more)?;
     let over = s & mask;
     if over == 0 {
-        return Fit::At(s);
+        return Some(s);
     }
     let pad = mask - over;
     if pad < spare {
-        return Fit::At(s + pad + 1);
+        return Some(s + pad + 1);
     }
-    Fit::Nowhere
+    None
 }
 
 // The last place for the window in the range from s to e, both its own addresses.
-pub fn fits_high(s: u64, e: u64, more: u64, mask: u64) -> Fit
+#[tactic(auto, unfolding(crate::specs::Places::FitsHigh))]
+pub fn fits_high(s: u64, e: u64, more: u64, mask: u64) -> Option<u64>
     ensures { FitsHigh s e more mask result }
 {
-    if e < s {
-        return Fit::Nowhere;
-    }
-    let gap = e - s;
-    if gap < more {
-        return Fit::Nowhere;
-    }
-    let top = e - more;
+    let spare = e.checked_sub(s)?.checked_sub(more)?;
+    let top = s + spare;
     let over = top & mask;
-    if top - s < over {
-        return Fit::Nowhere;
+    if spare < over {
+        return None;
     }
-    Fit::At(top - over)
-}
-
-// A range as both its ends.
-#[derive(Clone, Copy)]
-enum Span {
-    Free(u64, u64),
-    Taken,
-}
-
-// Range i of a row, where it is free: it ends before the next one starts, the last one with `last`.
-fn span_at(starts: &[u64], tags: &[u64], last: u64, i: usize) -> Span
-    requires { (length starts.now ≡ length tags.now) × (i < length starts.now) }
-    ensures { Spans starts.now tags.now last i result }
-{
-    if tags[i] != 0 {
-        return Span::Taken;
-    }
-    let j = i + 1;
-    if j == starts.len() {
-        return Span::Free(starts[i], last);
-    }
-    let next = starts[j];
-    if next == 0 {
-        return Span::Taken;
-    }
-    Span::Free(starts[i], next - 1)
-}
-
-fn low_at(starts: &[u64], tags: &[u64], last: u64, i: usize, more: u64, mask: u64) -> Fit
-    requires { (length starts.now ≡ length tags.now) × (i < length starts.now) }
-    ensures { LowAt starts.now tags.now last more mask i result }
-{
-    let range = span_at(starts, tags, last, i);
-    let Span::Free(s, e) = range else {
-        return Fit::Nowhere;
-    };
-    fits_low(s, e, more, mask)
-}
-
-fn high_at(starts: &[u64], tags: &[u64], last: u64, i: usize, more: u64, mask: u64) -> Fit
-    requires { (length starts.now ≡ length tags.now) × (i < length starts.now) }
-    ensures { HighAt starts.now tags.now last more mask i result }
-{
-    let range = span_at(starts, tags, last, i);
-    let Span::Free(s, e) = range else {
-        return Fit::Nowhere;
-    };
-    fits_high(s, e, more, mask)
+    Some(top - over)
 }
 
 // How far it is from s to next, of a free range, where next is not below s; of a granted one any number, 0 where its tag is 1.
@@ -107,83 +41,120 @@ fn high_at(starts: &[u64], tags: &[u64], last: u64, i: usize, more: u64, mask: u
 pub fn likely(s: u64, next: u64, t: u64) -> u64
     ensures { t ≡ 0 → next ≤ s + result }
 {
-    let all = std::num::wrapping_sub_u64(t, 1);
-    std::num::wrapping_sub_u64(next, s) & all
+    next.wrapping_sub(s) & t.wrapping_sub(1)
 }
 
-// From range `from` on, the first that may have more than `more` addresses, or the last of all.
-fn skip_up(starts: &[u64], tags: &[u64], from: usize, more: u64) -> usize
-    requires { (length starts.now ≡ length tags.now) × (from ≤ length starts.now) }
-    ensures { (from ≤ result) × (result ≤ length starts.now) × Narrow starts.now tags.now more from result }
-{
-    let n = starts.len();
-    let mut i = from;
-    while i < n {
-        let j = i + 1;
-        if j == n {
-            return i;
-        }
-        let g = likely(starts[i], starts[j], tags[i]);
-        if more < g {
-            return i;
-        }
-        i = j;
-    }
-    i
+// A row of ranges: their starts, and as many tags, 0 for a free range. Each ends before the next one starts, the last one with `last`.
+#[derive(Clone, Copy)]
+struct Row<'a> {
+    starts: &'a [u64],
+    tags: &'a [u64],
+    last: u64,
+    ghost alike: { length starts.now ≡ length tags.now },
 }
 
-// One more than the last range before range `from` that may have more than `more` addresses; or 0.
-fn skip_down(starts: &[u64], tags: &[u64], from: usize, more: u64) -> usize
-    requires { (length starts.now ≡ length tags.now) × (from < length starts.now) }
-    ensures { (result ≤ from) × Narrow starts.now tags.now more result from }
-{
-    let mut i = from;
-    while 0 < i {
-        let j = i - 1;
-        let g = likely(starts[j], starts[i], tags[j]);
-        if more < g {
-            return i;
+impl<'a> Row<'a> {
+    // Both ends of range i, where it is free.
+    #[tactic(auto, unfolding(crate::specs::Places::Spans))]
+    fn span_at(&self, i: usize) -> Option<(u64, u64)>
+        requires { i < length self.now.starts.now }
+        ensures { Spans self.now.starts.now self.now.tags.now self.now.last i result }
+    {
+        if self.tags[i] != 0 {
+            return None;
         }
-        i = j;
+        let Some(next) = self.starts.get(i + 1) else {
+            return Some((self.starts[i], self.last));
+        };
+        let end = next.checked_sub(1)?;
+        Some((self.starts[i], end))
     }
-    i
+
+    fn low_at(&self, i: usize, more: u64, mask: u64) -> Option<u64>
+        requires { i < length self.now.starts.now }
+        ensures { LowAt self.now.starts.now self.now.tags.now self.now.last more mask i result }
+    {
+        let (s, e) = self.span_at(i)?;
+        fits_low(s, e, more, mask)
+    }
+
+    fn high_at(&self, i: usize, more: u64, mask: u64) -> Option<u64>
+        requires { i < length self.now.starts.now }
+        ensures { HighAt self.now.starts.now self.now.tags.now self.now.last more mask i result }
+    {
+        let (s, e) = self.span_at(i)?;
+        fits_high(s, e, more, mask)
+    }
+
+    // From range `from` on, the first that may have more than `more` addresses, or the last of all.
+    #[tactic(auto, unfolding(crate::specs::Places::Narrow))]
+    fn skip_up(&self, from: usize, more: u64) -> usize
+        requires { from ≤ length self.now.starts.now }
+        ensures { (from ≤ result) × (result ≤ length self.now.starts.now) × Narrow self.now.starts.now self.now.tags.now more from result }
+    {
+        let n = self.starts.len();
+        for i in from..n {
+            if i + 1 == n || more < likely(self.starts[i], self.starts[i + 1], self.tags[i]) {
+                return i;
+            }
+        }
+        n
+    }
+
+    // One more than the last range before range `from` that may have more than `more` addresses; or 0.
+    #[tactic(auto, unfolding(crate::specs::Places::Narrow))]
+    fn skip_down(&self, from: usize, more: u64) -> usize
+        requires { from < length self.now.starts.now }
+        ensures { (result ≤ from) × Narrow self.now.starts.now self.now.tags.now more result from }
+    {
+        for i in (0..from).rev() {
+            if more < likely(self.starts[i], self.starts[i + 1], self.tags[i]) {
+                return i + 1;
+            }
+        }
+        0
+    }
 }
 
 // The lowest place in a row of ranges, given by their starts and their tags, 0 for a free one. The last range ends with `last`.
-pub fn scan_up(starts: &[u64], tags: &[u64], last: u64, more: u64, mask: u64) -> Fit
+// Two lists and no `Row`: any two are answered, those of different lengths too. Up and down are written out each, since the window that is
+// wanted and what is promised of it differ (`LowestIn`, `HighestIn`), not a constant.
+pub fn scan_up(starts: &[u64], tags: &[u64], last: u64, more: u64, mask: u64) -> Option<u64>
     ensures { SearchUp starts.now tags.now last more mask result }
 {
     let n = starts.len();
     if tags.len() != n {
-        return Fit::Nowhere;
+        return None;
     }
-    let mut i = skip_up(starts, tags, 0, more);
+    let row = Row { starts, tags, last };
+    let mut i = row.skip_up(0, more);
+    // no `for`: each turn leaps over the ranges that are too short
     while i < n {
-        let f = low_at(starts, tags, last, i, more, mask);
-        if let Fit::At(a) = f {
-            return Fit::At(a);
+        if let Some(a) = row.low_at(i, more, mask) {
+            return Some(a);
         }
-        i = skip_up(starts, tags, i + 1, more);
+        i = row.skip_up(i + 1, more);
     }
-    Fit::Nowhere
+    None
 }
 
 // The highest place in a row of ranges.
-pub fn scan_down(starts: &[u64], tags: &[u64], last: u64, more: u64, mask: u64) -> Fit
+pub fn scan_down(starts: &[u64], tags: &[u64], last: u64, more: u64, mask: u64) -> Option<u64>
     ensures { SearchDown starts.now tags.now last more mask result }
 {
     let n = starts.len();
     if tags.len() != n {
-        return Fit::Nowhere;
+        return None;
     }
+    let row = Row { starts, tags, last };
     let mut i = n;
+    // no `for`: each turn leaps over the ranges that are too short
     while 0 < i {
         let j = i - 1;
-        let f = high_at(starts, tags, last, j, more, mask);
-        if let Fit::At(a) = f {
-            return Fit::At(a);
+        if let Some(a) = row.high_at(j, more, mask) {
+            return Some(a);
         }
-        i = skip_down(starts, tags, j, more);
+        i = row.skip_down(j, more);
     }
-    Fit::Nowhere
+    None
 }

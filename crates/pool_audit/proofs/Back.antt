@@ -3,25 +3,24 @@
 --     undo_grant       giving the granted range back leaves the pool before
 --     undo_release     granting just the freed range leaves the pool before
 -- Assumes nothing.
+use Rattle.std.proofs.Common.{Ok}
 use Prim.Native.Nat.{ℕ, suc, ◌+◌, ◌-◌, ◌≤◌, ◌<◌}
-use mathlib.Core.Path.{◌≡◌, refl, sym, ◌∙◌, ap, subst}
-use mathlib.Core.Bool.{cond}
-use mathlib.Core.Logic.{◌⊎◌, inl, inr, ⊎_elim}
+use mathlib.Core.Path.{◌≡◌, refl, sym, ap, subst}
+use mathlib.Core.Logic.{inr, ⊎_elim}
 use mathlib.Core.List.Memᴰ
 use mathlib.Core.List.{List, [], ◌∷◌, Memᴰ}
 use native.Mathlib.Omega.{arith}
-use lib.Dec.{ltb, eqb}
 use lib.ListN.{length}
 use borrow.Author.Tests.{ne_eqb, eq-eqb, le-ltb, lt-ltb}
 use Rattle.ranges.specs.declared.AllocPolicy.TheVariants.{ExactMatch}
 use Rattle.ranges.specs.declared.Constraint.{Constraint}
 use Rattle.ranges.specs.declared.Error.{Error}
 use Rattle.ranges.specs.declared.RangeInclusive.{RangeInclusive}
-use Rattle.ranges.specs.Range.{IsRange}
+use Rattle.ranges.specs.Range.{IsRange, Counts, MakesRange}
 use Rattle.ranges.specs.Request.{Proper}
 use Rattle.addresses.specs.declared.Answer.{Answer}
 use Rattle.addresses.specs.declared.Answer.TheVariants.{Granted, Freed, Refused}
-use Rattle.addresses.specs.Meaning.{State, Ordered, Sound, insert, remove, window, granting, releasing, row_of}
+use Rattle.addresses.specs.Meaning.{State, Ordered, insert, remove, window, granting, releasing, row_of}
 use Rattle.addresses.specs.Operations.{Pool, next, HasRoom, Allocates, Frees}
 use Rattle.addresses.specs.Runs.{Operation, Allocate, Release, Valid, Does}
 use Rattle.addresses.specs.Steps.{Clear}
@@ -31,7 +30,7 @@ use Rattle.addresses.specs.Contract.{Performs}
 use Rattle.addresses.proofs.Room.{ordered_mem}
 use Rattle.addresses.proofs.Tiles.{free_releasing}
 use Rattle.addresses.proofs.ComputedLaws.{does_unique}
-use Rattle.addresses.proofs.PoolLaws.{free_undoes, granted_range, next_valid}
+use Rattle.addresses.proofs.PoolLaws.{free_undoes, granted_range}
 use Rattle.addresses.proofs.ExactLaws.{exactly_just}
 use Rattle.pool_audit.specs.Verdicts.{size_of}
 use Rattle.pool_audit.specs.Steps.{GrantsJust, Undoes}
@@ -57,6 +56,10 @@ insert_remove from top (q ∷ rs) r o m = ⊎_elim here (there (insert_remove (s
 -- a request for just this range, with any start allowed, is in order
 pub proper_just : (s e : ℕ) → Proper (e - s + 1) 1 (ExactMatch s)
 proper_just s e = record { some = omega arith; power = (0, refl); aligned = (s, omega arith) }
+
+-- as many addresses are asked for as the range has
+pub just_size : (s e n : ℕ) (r : RangeInclusive) → MakesRange s e (Ok r) → Counts r n → n ≡ e - s + 1
+just_size s e n r c k = (subst (λ (y : RangeInclusive). Counts y n) (λ i. record { start = c.0 i; end = c.1 i }) k).of_range c.2
 
 module _ (p : Pool) (r : RangeInclusive) (v : Valid p) (m : Memᴰ r p.state.granted) where
   bounds : (p.state.base ≤ r.start) × (r.start ≤ r.end) × (r.end < p.state.top)

@@ -1,4 +1,3 @@
 -- Laws of an audit: going back to a pool, and on from a claim.
 pub mod Back
 pub mod Claimed
-pub mod Sames

@@ -11,8 +11,8 @@ use Rattle.addresses.specs.Runs.{Operation, Does}
 use Rattle.addresses.specs.Steps.{Clear}
 use Rattle.addresses.specs.Exact.{Exactly}
 use Rattle.addresses.specs.Held.{Holds}
-use Rattle.pool_audit.specs.declared.Verdict.{Verdict}
-use Rattle.pool_audit.specs.declared.Verdict.TheVariants.{Right, Followed, Stayed}
+use Rattle.verdict.specs.declared.Verdict.{Verdict}
+use Rattle.verdict.specs.declared.Verdict.TheVariants.{Right, Followed, Stayed}
 
 -- the number of a range's addresses
 abbrev pub size_of : RangeInclusive → ℕ
@@ -32,11 +32,11 @@ Hinders p (Freed r) e = Frees p r (Refused e)
 Hinders p (Refused x) e = ⊥
 
 -- the verdict on a claimed answer of operation o in pool p, and what the block m' holds then: the pool after the claim, or p
-unfoldable pub Judged : Pool → Operation → Answer → Verdict → List ℕ → Type 0
+unfoldable pub Judged : Pool → Operation → Answer → Verdict Answer → List ℕ → Type 0
 Judged p o claim Right m' = Does p o claim × Holds m' (next p claim)
 Judged p o claim (Followed x) m' = (¬ Does p o claim) × Does p o x × Possible p claim × Holds m' (next p claim)
 Judged p o claim (Stayed x e) m' = (¬ Does p o claim) × Does p o x × Hinders p claim e × Holds m' p
 
 -- what judging a claim does to a block: m is the block before, m' the block after
-abbrev pub Audits : List ℕ → Operation → Answer → Verdict → List ℕ → Type 0
+abbrev pub Audits : List ℕ → Operation → Answer → Verdict Answer → List ℕ → Type 0
 Audits m o claim v m' = (p : Pool) → Holds m p → Judged p o claim v m'

@@ -3,90 +3,36 @@
 // Every function is total: any numbers, any claim and any contents of the block are answered.
 #![tactic(auto)]
 
-ghost use Rattle.std.specs.Prelude.{◌≡◌};
-ghost use Rattle.ranges.specs.Align.{Decides};
-ghost use Rattle.addresses.specs.Contract.{asking, returning};
+ghost use Rattle.addresses.specs.Contract.{asking, granted, returning};
 ghost use Rattle.pool_audit.specs.Verdicts.{Audits};
 ghost use Rattle.pool_audit.specs.Steps.{GrantsJust, Follows, Undoes, Settles};
 
 use addresses::Answer;
-use ranges::{AllocPolicy, Error, RangeInclusive, RangeMade};
+use ranges::{AllocPolicy, Error, RangeInclusive};
+use verdict::Verdict;
 
-// What is said of a claim.
-#[derive(Clone, Copy)]
-pub enum Verdict {
-    // it is the answer
-    Right,
-    // it is not: the right answer; the block goes on from the claim
-    Followed(Answer),
-    // it is not: the right answer, and why the block cannot go on from the claim
-    Stayed(Answer, Error),
-}
-
-// Whether the block goes on from a claim, or why not.
-#[derive(Clone, Copy)]
-pub enum Taken {
-    Done,
-    Hindered(Error),
-}
-
-// Whether two answers are the same.
-fn same(a: Answer, b: Answer) -> bool
-    ensures { Decides result (a ≡ b) }
+// Grants just the range r.
+fn grant_just(mem: &mut [u64], r: RangeInclusive) -> Result<RangeInclusive, Error>
+    ensures { GrantsJust mem.old r.start r.end (granted result) mem.new }
 {
-    match a {
-        Answer::Granted(x) => match b {
-            Answer::Granted(y) => x.start == y.start && x.end == y.end,
-            Answer::Freed(_) => false,
-            Answer::Refused(_) => false,
-        },
-        Answer::Freed(x) => match b {
-            Answer::Granted(_) => false,
-            Answer::Freed(y) => x.start == y.start && x.end == y.end,
-            Answer::Refused(_) => false,
-        },
-        Answer::Refused(x) => match b {
-            Answer::Granted(_) => false,
-            Answer::Freed(_) => false,
-            Answer::Refused(y) => x.number() == y.number(),
-        },
-    }
-}
-
-// Grants just the range from start to end.
-fn grant_just(mem: &mut [u64], start: u64, end: u64) -> Answer
-    ensures { GrantsJust mem.old start end result mem.new }
-{
-    let made = RangeInclusive::new(start, end);
-    if let RangeMade::Refused(e) = made {
-        return Answer::Refused(e);
-    }
-    addresses::allocate(mem, end - start + 1, 1, AllocPolicy::ExactMatch(start))
+    let range = RangeInclusive::new(r.start, r.end)?;
+    addresses::allocate(mem, range.len(), 1, AllocPolicy::ExactMatch(range.start))
 }
 
 // Goes on from a claim: grants the claimed range, frees it, or, of a refusal, does nothing.
-fn follow(mem: &mut [u64], claim: Answer) -> Taken
+fn follow(mem: &mut [u64], claim: Answer) -> Result<(), Error>
     ensures { Follows mem.old claim result mem.new }
 {
     match claim {
         Answer::Granted(r) => {
-            let answer = grant_just(mem, r.start, r.end);
-            match answer {
-                Answer::Granted(_) => Taken::Done,
-                Answer::Freed(_) => Taken::Done,
-                Answer::Refused(e) => Taken::Hindered(e),
-            }
+            grant_just(mem, r)?;
         }
         Answer::Freed(r) => {
-            let answer = addresses::free(mem, r.start, r.end);
-            match answer {
-                Answer::Granted(_) => Taken::Done,
-                Answer::Freed(_) => Taken::Done,
-                Answer::Refused(e) => Taken::Hindered(e),
-            }
+            addresses::free(mem, r.start, r.end)?;
         }
-        Answer::Refused(_) => Taken::Done,
+        Answer::Refused(_) => {}
     }
+    Ok(())
 }
 
 // Goes back to the state before an answer.
@@ -95,27 +41,26 @@ fn undo(mem: &mut [u64], answer: Answer)
 {
     match answer {
         Answer::Granted(r) => {
-            addresses::free(mem, r.start, r.end);
+            let _ = addresses::free(mem, r.start, r.end);
         }
         Answer::Freed(r) => {
-            grant_just(mem, r.start, r.end);
+            let _ = grant_just(mem, r);
         }
         Answer::Refused(_) => {}
     }
 }
 
 // The verdict on a claim, once the right answer was given.
-fn settle(mem: &mut [u64], answer: Answer, claim: Answer) -> Verdict
+fn settle(mem: &mut [u64], answer: Answer, claim: Answer) -> Verdict<Answer>
     ensures { Settles mem.old answer claim result mem.new }
 {
-    if same(answer, claim) {
+    if answer == claim {
         return Verdict::Right;
     }
     undo(mem, answer);
-    let taken = follow(mem, claim);
-    match taken {
-        Taken::Done => Verdict::Followed(answer),
-        Taken::Hindered(e) => Verdict::Stayed(answer, e),
+    match follow(mem, claim) {
+        Ok(()) => Verdict::Followed(answer),
+        Err(e) => Verdict::Stayed(answer, e),
     }
 }
 
@@ -126,17 +71,17 @@ pub fn allocate(
     align: u64,
     policy: AllocPolicy,
     claim: Answer,
-) -> Verdict
+) -> Verdict<Answer>
     ensures { Audits mem.old (asking size align policy) claim result mem.new }
 {
-    let answer = addresses::allocate(mem, size, align, policy);
+    let answer = Answer::granted(addresses::allocate(mem, size, align, policy));
     settle(mem, answer, claim)
 }
 
 // Judges the claimed answer of a give-back.
-pub fn free(mem: &mut [u64], start: u64, end: u64, claim: Answer) -> Verdict
+pub fn free(mem: &mut [u64], start: u64, end: u64, claim: Answer) -> Verdict<Answer>
     ensures { Audits mem.old (returning start end) claim result mem.new }
 {
-    let answer = addresses::free(mem, start, end);
+    let answer = Answer::freed(addresses::free(mem, start, end));
     settle(mem, answer, claim)
 }

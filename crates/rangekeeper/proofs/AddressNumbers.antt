@@ -3,7 +3,7 @@
 --     grant_refused, free_refused     a reason's number: it is that reason, and block and out-parameter are as they were
 --     left_done                       what is left is not refused, and the two numbers are right
 -- Assumes nothing.
-use Prim.Native.Nat.{ℕ, ◌<◌}
+use Prim.Native.Nat.{ℕ}
 use mathlib.Core.Path.{◌≡◌, sym, ◌∙◌, ap, subst}
 use mathlib.Core.List.{List}
 use native.Mathlib.Omega.{arith}
@@ -21,7 +21,7 @@ use Rattle.addresses.specs.Runs.{Allocate, Release, Does}
 use Rattle.addresses.specs.Held.{Holds}
 use Rattle.addresses.specs.Contract.{Performs, asking, returning}
 use Rattle.left.specs.declared.Left.{Left}
-use Rattle.left.specs.declared.Left.TheVariants as left
+use Rattle.std.proofs.Common.{Result, Ok, Err}
 use Rattle.left.specs.Contract.{FreeAddresses, LargestFree, Tells}
 use Rattle.rangekeeper.specs.Address as address
 
@@ -74,6 +74,6 @@ pub left_done : (m : List ℕ) (a b r free largest : ℕ) (p : Pool) → address
 unfolding Tells
 left_done m a b r free largest p g h = go g.answer g.number g.count g.size g.right
   where
-    go : (x : Left) → r ≡ address.left_number x → free ≡ address.free_or a x → largest ≡ address.largest_or b x → Tells m x → (r ≡ 0) × FreeAddresses p.state free × LargestFree p.state largest
-    go (left.Known f l) n c s t = (n, rw c (t p h).0, rw s (t p h).1)
-    go (left.Refused e) n c s t = absurd (t.1 p h)
+    go : (x : Result Left Error) → r ≡ address.left_number x → free ≡ address.free_or a x → largest ≡ address.largest_or b x → Tells m x → (r ≡ 0) × FreeAddresses p.state free × LargestFree p.state largest
+    go (Ok l) n c s t = (n, rw c (t p h).0, rw s (t p h).1)
+    go (Err e) n c s t = absurd (t.1 p h)

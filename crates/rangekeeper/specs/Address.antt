@@ -1,24 +1,22 @@
 -- What the address allocator's names answer: the answer of what each calls, as a number, 0 for done. m is the block before, m' the block after.
-use Rattle.std.specs.Prelude.{ℕ, ◌≡◌, ◌⊎◌, List}
+use Rattle.std.specs.Prelude.{ℕ, ◌≡◌, ◌⊎◌, List, Result, Ok, Err}
 use Rattle.ranges.specs.declared.AllocPolicy.{AllocPolicy}
 use Rattle.ranges.specs.declared.Error.{Error}
 use Rattle.ranges.specs.Reasons.{number_of}
 use Rattle.ranges.specs.Request as request
 use Rattle.table.specs.declared.Stands.{Stands}
-use Rattle.table.specs.declared.Stands.TheVariants.{In, Outside, NoTable}
+use Rattle.table.specs.declared.AtError.{AtError}
+use Rattle.table.specs.declared.AtError.TheVariants.{Outside, NoTable}
 use Rattle.addresses.specs.declared.Answer.{Answer}
 use Rattle.addresses.specs.declared.Answer.TheVariants.{Granted, Freed, Refused}
-use Rattle.addresses.specs.declared.Setup.{Setup}
-use Rattle.addresses.specs.declared.Setup.TheVariants.{Ready, Unfit}
 use Rattle.addresses.specs.Contract as addresses
 use Rattle.left.specs.declared.Left.{Left}
-use Rattle.left.specs.declared.Left.TheVariants as left
 use Rattle.left.specs.Contract.{Tells}
 
 -- the number of what `new` answers
-abbrev pub setup_number : Setup → ℕ
-setup_number Ready = 0
-setup_number (Unfit e) = number_of e
+abbrev pub setup_number : Result (Unit {0}) Error → ℕ
+setup_number (Ok tt) = 0
+setup_number (Err e) = number_of e
 
 -- the number of what an operation answers
 abbrev pub answer_number : Answer → ℕ
@@ -34,7 +32,7 @@ granted_or old (Refused e) = old
 
 -- what `rk_address_new` does: what `new` does, and its number
 pub record Starts (m : List ℕ) (base size limit r : ℕ) (m' : List ℕ) : Type 0 where
-  pub answer : Setup
+  pub answer : Result (Unit {0}) Error
   pub number : r ≡ setup_number answer
   pub made : addresses.Starts m base size limit answer m'
 
@@ -64,30 +62,27 @@ pub record Frees (m : List ℕ) (s e r : ℕ) (m' : List ℕ) : Type 0 where
   pub done : addresses.Performs m (addresses.returning s e) answer m'
 
 -- the number of what stands at an address: 0 for a range
-abbrev pub stands_number : Stands → ℕ
-stands_number (In s e t) = 0
-stands_number Outside = number_of Error.OutOfRange
-stands_number NoTable = number_of Error.NoState
+abbrev pub stands_number : Result Stands AtError → ℕ
+stands_number (Ok x) = 0
+stands_number (Err Outside) = number_of Error.OutOfRange
+stands_number (Err NoTable) = number_of Error.NoState
 
 -- what three out-parameters that held `old` hold after it: the range's first address, its last, and its tag, or what they held
-abbrev pub start_or : ℕ → Stands → ℕ
-start_or old (In s e t) = s
-start_or old Outside = old
-start_or old NoTable = old
+abbrev pub start_or : ℕ → Result Stands AtError → ℕ
+start_or old (Ok x) = x.start
+start_or old (Err e) = old
 
-abbrev pub end_or : ℕ → Stands → ℕ
-end_or old (In s e t) = e
-end_or old Outside = old
-end_or old NoTable = old
+abbrev pub end_or : ℕ → Result Stands AtError → ℕ
+end_or old (Ok x) = x.end
+end_or old (Err e) = old
 
-abbrev pub tag_or : ℕ → Stands → ℕ
-tag_or old (In s e t) = t
-tag_or old Outside = old
-tag_or old NoTable = old
+abbrev pub tag_or : ℕ → Result Stands AtError → ℕ
+tag_or old (Ok x) = x.tag
+tag_or old (Err e) = old
 
 -- what `rk_address_at` does: what `at` answers, its number, and the range; a, b and c are what the out-parameters held before
 pub record Shows (m : List ℕ) (at a b c r start end tag : ℕ) : Type 0 where
-  pub answer : Stands
+  pub answer : Result Stands AtError
   pub number : r ≡ stands_number answer
   pub first : start ≡ start_or a answer
   pub last : end ≡ end_or b answer
@@ -95,22 +90,22 @@ pub record Shows (m : List ℕ) (at a b c r start end tag : ℕ) : Type 0 where
   pub right : addresses.Shows m at answer
 
 -- the number of what is left: 0 where it is known
-abbrev pub left_number : Left → ℕ
-left_number (left.Known f l) = 0
-left_number (left.Refused e) = number_of e
+abbrev pub left_number : Result Left Error → ℕ
+left_number (Ok l) = 0
+left_number (Err e) = number_of e
 
 -- what two out-parameters that held `old` hold after it: the free addresses and the largest free range, or what they held
-abbrev pub free_or : ℕ → Left → ℕ
-free_or old (left.Known f l) = f
-free_or old (left.Refused e) = old
+abbrev pub free_or : ℕ → Result Left Error → ℕ
+free_or old (Ok l) = l.free
+free_or old (Err e) = old
 
-abbrev pub largest_or : ℕ → Left → ℕ
-largest_or old (left.Known f l) = l
-largest_or old (left.Refused e) = old
+abbrev pub largest_or : ℕ → Result Left Error → ℕ
+largest_or old (Ok l) = l.largest
+largest_or old (Err e) = old
 
 -- what `rk_address_left` does: what `ask` answers, its number, and the two numbers; a and b are what the out-parameters held before
 pub record Leaves (m : List ℕ) (a b r free largest : ℕ) : Type 0 where
-  pub answer : Left
+  pub answer : Result Left Error
   pub number : r ≡ left_number answer
   pub count : free ≡ free_or a answer
   pub size : largest ≡ largest_or b answer

@@ -5,10 +5,8 @@ ghost use Rattle.addresses.specs.Meaning.{row_of};
 ghost use Rattle.addresses.specs.Contract.{Says};
 ghost use Rattle.rangekeeper.specs.Address.{Starts, Allocates, Frees, Shows, Leaves};
 
-use addresses::{Answer, Setup};
-use left::Left;
-use ranges::{AllocPolicy, Error, PolicyMade};
-use table::Stands;
+use ranges::{AllocPolicy, Error};
+use table::AtError;
 
 // How many words a block for `limit` ranges, free and granted together, takes; 0 where the limit is not 1 to 4,096.
 #[unsafe(no_mangle)]
@@ -23,10 +21,9 @@ pub extern "C" fn rk_address_words(limit: usize) -> usize
 pub extern "C" fn rk_address_new(mem: &mut [u64], base: u64, size: u64, limit: usize) -> u32
     ensures { Starts mem.old base size limit result mem.new }
 {
-    let made = addresses::new(mem, base, size, limit);
-    match made {
-        Setup::Ready => 0,
-        Setup::Unfit(e) => e.number(),
+    match addresses::new(mem, base, size, limit) {
+        Ok(()) => 0,
+        Err(e) => e.number(),
     }
 }
 
@@ -43,20 +40,15 @@ pub extern "C" fn rk_address_allocate(
 ) -> u32
     ensures { Allocates mem.old start.old size alignment policy address result mem.new start.new }
 {
-    let made = AllocPolicy::from_number(policy, address);
-    match made {
-        PolicyMade::Refused(e) => e.number(),
-        PolicyMade::Made(p) => {
-            let answer = addresses::allocate(mem, size, alignment, p);
-            match answer {
-                Answer::Granted(r) => {
-                    *start = r.start;
-                    0
-                }
-                Answer::Freed(_) => 0,
-                Answer::Refused(e) => e.number(),
+    match AllocPolicy::from_number(policy, address) {
+        Ok(p) => match addresses::allocate(mem, size, alignment, p) {
+            Ok(r) => {
+                *start = r.start;
+                0
             }
-        }
+            Err(e) => e.number(),
+        },
+        Err(e) => e.number(),
     }
 }
 
@@ -65,11 +57,9 @@ pub extern "C" fn rk_address_allocate(
 pub extern "C" fn rk_address_free(mem: &mut [u64], start: u64, end: u64) -> u32
     ensures { Frees mem.old start end result mem.new }
 {
-    let answer = addresses::free(mem, start, end);
-    match answer {
-        Answer::Granted(_) => 0,
-        Answer::Freed(_) => 0,
-        Answer::Refused(e) => e.number(),
+    match addresses::free(mem, start, end) {
+        Ok(_) => 0,
+        Err(e) => e.number(),
     }
 }
 
@@ -84,20 +74,15 @@ pub extern "C" fn rk_address_at(
 ) -> u32
     ensures { Shows mem.now address start.old end.old tag.old result start.new end.new tag.new }
 {
-    let stands = addresses::at(mem, address);
-    match stands {
-        Stands::In {
-            start: s,
-            end: e,
-            tag: t,
-        } => {
-            *start = s;
-            *end = e;
-            *tag = t;
+    match addresses::at(mem, address) {
+        Ok(stands) => {
+            *start = stands.start;
+            *end = stands.end;
+            *tag = stands.tag;
             0
         }
-        Stands::Outside => Error::OutOfRange.number(),
-        Stands::NoTable => Error::NoState.number(),
+        Err(AtError::Outside) => Error::OutOfRange.number(),
+        Err(AtError::NoTable) => Error::NoState.number(),
     }
 }
 
@@ -130,16 +115,12 @@ pub extern "C" fn rk_address_end(mem: &[u64]) -> u64
 pub extern "C" fn rk_address_left(mem: &[u64], free: &mut u64, largest: &mut u64) -> u32
     ensures { Leaves mem.now free.old largest.old result free.new largest.new }
 {
-    let answer = left::ask(mem);
-    match answer {
-        Left::Known {
-            free: f,
-            largest: l,
-        } => {
-            *free = f;
-            *largest = l;
+    match left::ask(mem) {
+        Ok(left) => {
+            *free = left.free;
+            *largest = left.largest;
             0
         }
-        Left::Refused(e) => e.number(),
+        Err(e) => e.number(),
     }
 }

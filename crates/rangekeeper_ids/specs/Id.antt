@@ -1,44 +1,41 @@
 -- What the id allocator's names answer: the answer of what each calls, as a number, 0 for done. m is the block before, m' the block after.
-use Rattle.std.specs.Prelude.{ℕ, ◌≡◌, Bool, true, false, List}
+use Rattle.std.specs.Prelude.{ℕ, ◌≡◌, Bool, true, false, List, Result, Ok, Err}
+use Rattle.ranges.specs.declared.Error.{Error}
 use Rattle.ranges.specs.Reasons.{number_of}
-use Rattle.ids.specs.declared.Answer.{Answer}
-use Rattle.ids.specs.declared.Answer.TheVariants.{Id, Refused}
-use Rattle.ids.specs.declared.Setup.{Setup}
-use Rattle.ids.specs.declared.Setup.TheVariants.{Ready, Unfit}
 use Rattle.ids.specs.Runs.{Allocate, Release}
 use Rattle.ids.specs.Contract as ids
 
 -- the number of what `new` answers
-abbrev pub setup_number : Setup → ℕ
-setup_number Ready = 0
-setup_number (Unfit e) = number_of e
+abbrev pub setup_number : Result Unit Error → ℕ
+setup_number (Ok tt) = 0
+setup_number (Err e) = number_of e
 
 -- the number of what an operation answers
-abbrev pub answer_number : Answer → ℕ
-answer_number (Id i) = 0
-answer_number (Refused e) = number_of e
+abbrev pub answer_number : Result ℕ Error → ℕ
+answer_number (Ok i) = 0
+answer_number (Err e) = number_of e
 
 -- what an out-parameter that held `old` holds after an answer: the id, or what it held
-abbrev pub id_or : ℕ → Answer → ℕ
-id_or old (Id i) = i
-id_or old (Refused e) = old
+abbrev pub id_or : ℕ → Result ℕ Error → ℕ
+id_or old (Ok i) = i
+id_or old (Err e) = old
 
 -- what `rk_id_new` does: what `new` does, and its number
 pub record Starts (m : List ℕ) (low high r : ℕ) (m' : List ℕ) : Type 0 where
-  pub answer : Setup
+  pub answer : Result Unit Error
   pub number : r ≡ setup_number answer
   pub made : ids.Makes m low high answer m'
 
 -- what `rk_id_allocate` does: what `allocate` does, its number, and the id
 pub record Allocates (m : List ℕ) (old r : ℕ) (m' : List ℕ) (id : ℕ) : Type 0 where
-  pub answer : Answer
+  pub answer : Result ℕ Error
   pub number : r ≡ answer_number answer
   pub out : id ≡ id_or old answer
   pub done : ids.Performs m Allocate answer m'
 
 -- what `rk_id_free` does: what `free` does, and its number
 pub record Frees (m : List ℕ) (id r : ℕ) (m' : List ℕ) : Type 0 where
-  pub answer : Answer
+  pub answer : Result ℕ Error
   pub number : r ≡ answer_number answer
   pub done : ids.Performs m (Release id) answer m'
 

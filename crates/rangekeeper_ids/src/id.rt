@@ -4,8 +4,6 @@ ghost use Rattle.ids.specs.Held.{Needs};
 ghost use Rattle.ids.specs.Contract.{Leaves};
 ghost use Rattle.rangekeeper_ids.specs.Id.{Starts, Allocates, Frees, Tells};
 
-use ids::{Answer, Setup};
-
 // How many words a block for the ids lowest to highest takes; 0 where there are no such ids.
 #[unsafe(no_mangle)]
 pub extern "C" fn rk_id_words(lowest: u32, highest: u32) -> usize
@@ -19,25 +17,23 @@ pub extern "C" fn rk_id_words(lowest: u32, highest: u32) -> usize
 pub extern "C" fn rk_id_new(mem: &mut [u64], lowest: u32, highest: u32) -> u32
     ensures { Starts mem.old lowest highest result mem.new }
 {
-    let made = ids::new(mem, lowest, highest);
-    match made {
-        Setup::Ready => 0,
-        Setup::Unfit(e) => e.number(),
+    match ids::new(mem, lowest, highest) {
+        Ok(()) => 0,
+        Err(e) => e.number(),
     }
 }
 
-// Grants the lowest id that is not granted.
+// Grants the lowest id that is not granted. C has no `Result`: the number says how it went, and the id goes out beside it.
 #[unsafe(no_mangle)]
 pub extern "C" fn rk_id_allocate(mem: &mut [u64], id: &mut u32) -> u32
     ensures { Allocates mem.old id.old result mem.new id.new }
 {
-    let answer = ids::allocate(mem);
-    match answer {
-        Answer::Id(i) => {
+    match ids::allocate(mem) {
+        Ok(i) => {
             *id = i;
             0
         }
-        Answer::Refused(e) => e.number(),
+        Err(e) => e.number(),
     }
 }
 
@@ -46,10 +42,9 @@ pub extern "C" fn rk_id_allocate(mem: &mut [u64], id: &mut u32) -> u32
 pub extern "C" fn rk_id_free(mem: &mut [u64], id: u32) -> u32
     ensures { Frees mem.old id result mem.new }
 {
-    let answer = ids::free(mem, id);
-    match answer {
-        Answer::Id(_) => 0,
-        Answer::Refused(e) => e.number(),
+    match ids::free(mem, id) {
+        Ok(_) => 0,
+        Err(e) => e.number(),
     }
 }
 
@@ -58,7 +53,7 @@ pub extern "C" fn rk_id_free(mem: &mut [u64], id: u32) -> u32
 pub extern "C" fn rk_id_is_allocated(mem: &[u64], id: u32) -> u32
     ensures { Tells mem.now id result }
 {
-    if ids::is_allocated(mem, id) { 1 } else { 0 }
+    ids::is_allocated(mem, id) as u32
 }
 
 // How many ids are not granted now; 0 where the block holds no allocator.

@@ -1,49 +1,21 @@
 -- What the names for saving an address allocator answer: the answer of what each calls, as a number, 0 for done. m is the block, bs are the bytes.
-use Rattle.std.specs.Prelude.{ℕ, ◌≡◌, List}
-use Rattle.ranges.specs.declared.Error.{Error}
-use Rattle.ranges.specs.Reasons.{number_of}
-use Rattle.frame.specs.Flaws as flaws
-use Rattle.saved.specs.declared.Saved.{Saved}
-use Rattle.saved.specs.declared.Saved.TheVariants as saved
+use Rattle.std.specs.Prelude.{ℕ, ◌≡◌, List, Result}
+use Rattle.frame.specs.declared.SaveError.{SaveError}
+use Rattle.frame.specs.declared.LoadError.{LoadError}
 use Rattle.saved.specs.Contract as save
-use Rattle.loaded.specs.declared.Loaded.{Loaded}
-use Rattle.loaded.specs.declared.Loaded.TheVariants as loaded
 use Rattle.loaded.specs.Contract as load
-
--- the number of what `save` answers
-abbrev pub saved_number : Saved → ℕ
-saved_number (saved.Bytes n) = 0
-saved_number saved.NoRoom = number_of Error.NoRoom
-saved_number saved.NoState = number_of Error.NoState
-
--- what an out-parameter that held `old` holds after it: how many bytes were written, or what it held
-abbrev pub written_or : ℕ → Saved → ℕ
-written_or old (saved.Bytes n) = n
-written_or old saved.NoRoom = old
-written_or old saved.NoState = old
+use Rattle.rangekeeper_saved.specs.Numbers.{saved_number, written_or, loaded_number, place_or}
 
 -- what `rk_address_save` does: what `save` does, its number, and how many bytes
 pub record Saves (m bs : List ℕ) (old r : ℕ) (bs' : List ℕ) (n : ℕ) : Type 0 where
-  pub answer : Saved
+  pub answer : Result ℕ SaveError
   pub number : r ≡ saved_number answer
   pub out : n ≡ written_or old answer
   pub done : save.Saves m bs answer bs'
 
--- the number of what `load` answers
-abbrev pub loaded_number : Loaded → ℕ
-loaded_number (loaded.Bytes n) = 0
-loaded_number loaded.NoRoom = number_of Error.NoRoom
-loaded_number (loaded.Refused flaw place) = flaws.number_of flaw
-
--- what an out-parameter that held `old` holds after it: how many bytes were read, the place of a flaw, or what it held
-abbrev pub place_or : ℕ → Loaded → ℕ
-place_or old (loaded.Bytes n) = n
-place_or old loaded.NoRoom = old
-place_or old (loaded.Refused flaw place) = place
-
 -- what `rk_address_load` does: what `load` does, its number, and how many bytes or where
 pub record Loads (bs m : List ℕ) (old r : ℕ) (m' : List ℕ) (at : ℕ) : Type 0 where
-  pub answer : Loaded
+  pub answer : Result ℕ LoadError
   pub number : r ≡ loaded_number answer
   pub out : at ≡ place_or old answer
   pub done : load.Loads bs m answer m'

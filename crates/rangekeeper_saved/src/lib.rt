@@ -3,5 +3,6 @@
 // of the bytes stands.
 #![tactic(auto)]
 
+mod answers;
 pub mod saved_address;
 pub mod saved_id;

@@ -1,11 +1,8 @@
 // The names for saving and loading an id allocator.
-ghost use Rattle.std.specs.Prelude.{◌≡◌};
 ghost use Rattle.saved_ids.specs.Contract.{Sizes};
 ghost use Rattle.rangekeeper_saved.specs.SavedId.{Saves, Loads};
 
-use loaded_ids::Loaded;
-use ranges::Error;
-use saved_ids::Saved;
+use crate::answers;
 
 // How many bytes the allocator takes when it is saved; 0 where the block's header is no allocator's.
 #[unsafe(no_mangle)]
@@ -20,15 +17,7 @@ pub extern "C" fn rk_id_saved_bytes(mem: &[u64]) -> usize
 pub extern "C" fn rk_id_save(mem: &[u64], bytes: &mut [u8], written: &mut usize) -> u32
     ensures { Saves mem.now bytes.old written.old result bytes.new written.new }
 {
-    let saved = saved_ids::save(mem, bytes);
-    match saved {
-        Saved::Bytes(n) => {
-            *written = n;
-            0
-        }
-        Saved::NoRoom => Error::NoRoom.number(),
-        Saved::NoState => Error::NoState.number(),
-    }
+    answers::of_save(saved_ids::save(mem, bytes), written)
 }
 
 // Makes the block hold the allocator with which the bytes begin, and says how many those are, or where a flaw stands.
@@ -36,16 +25,5 @@ pub extern "C" fn rk_id_save(mem: &[u64], bytes: &mut [u8], written: &mut usize)
 pub extern "C" fn rk_id_load(bytes: &[u8], mem: &mut [u64], at: &mut usize) -> u32
     ensures { Loads bytes.now mem.old at.old result mem.new at.new }
 {
-    let loaded = loaded_ids::load(bytes, mem);
-    match loaded {
-        Loaded::Bytes(n) => {
-            *at = n;
-            0
-        }
-        Loaded::NoRoom => Error::NoRoom.number(),
-        Loaded::Refused { flaw, place } => {
-            *at = place;
-            flaw.number()
-        }
-    }
+    answers::of_load(loaded_ids::load(bytes, mem), at)
 }

@@ -1,18 +1,17 @@
 -- What the names for several things or none answer: the answer of what each calls, as a number, 0 for done.
 -- a, b and c are the blocks before, a', b' and c' after; o and o' are the out-parameters before and after.
-use Rattle.std.specs.Prelude.{ℕ, ◌≡◌, ◌⊎◌, List}
+use Rattle.std.specs.Prelude.{ℕ, ◌≡◌, ◌⊎◌, List, Option, Some, None, Result, Ok, Err}
 use Rattle.ranges.specs.declared.AllocPolicy.{AllocPolicy}
 use Rattle.ranges.specs.declared.Constraint.{Constraint}
 use Rattle.ranges.specs.declared.Error.{Error}
+use Rattle.ranges.specs.declared.RangeInclusive.{RangeInclusive}
 use Rattle.ranges.specs.Reasons.{number_of}
 use Rattle.ranges.specs.Request as request
-use Rattle.both.specs.declared.Pair.{Pair}
-use Rattle.both.specs.declared.Pair.TheVariants as pair
-use Rattle.both.specs.declared.Triple.{Triple}
-use Rattle.both.specs.declared.Triple.TheVariants as triple
+use Rattle.both.specs.declared.PairError.{PairError}
+use Rattle.both.specs.declared.PairError.TheVariants as pair
+use Rattle.both.specs.declared.TripleError.{TripleError}
+use Rattle.both.specs.declared.TripleError.TheVariants as triple
 use Rattle.both.specs.Both as both
-use Rattle.rangekeeper_together.specs.declared.together.Request.{Request}
-use Rattle.rangekeeper_together.specs.declared.together.Request.TheVariants.{Made, Strange}
 
 -- ---- requests in numbers
 
@@ -35,9 +34,9 @@ pub record Means (n : Numbers) (q : Constraint) : Type 0 where
 abbrev pub NoPolicy : Numbers → Type 0
 NoPolicy n = (p : AllocPolicy) → request.Stands n.policy n.address p → ⊥
 
-abbrev pub Requests : Numbers → Request → Type 0
-Requests n (Made q) = Means n q
-Requests n Strange = NoPolicy n
+abbrev pub Requests : Numbers → Option Constraint → Type 0
+Requests n (Some q) = Means n q
+Requests n None = NoPolicy n
 
 -- ---- two pools
 
@@ -50,20 +49,24 @@ pub record Outs : Type 0 where
 abbrev pub outs : ℕ → ℕ → ℕ → Outs
 outs first second which = record { first = first; second = second; which = which }
 
--- the number of an answer, and what the out-parameters hold after it
-abbrev pub pair_number : Pair → ℕ
-pair_number (pair.Both r s) = 0
-pair_number (pair.First e) = number_of e
-pair_number (pair.Second e) = number_of e
+-- what asking two pools answers
+abbrev pub PairAnswer : Type 0
+PairAnswer = Result (RangeInclusive × RangeInclusive) PairError
 
-abbrev pub pair_outs : Outs → Pair → Outs
-pair_outs o (pair.Both r s) = outs r.start s.start o.which
-pair_outs o (pair.First e) = outs o.first o.second 1
-pair_outs o (pair.Second e) = outs o.first o.second 2
+-- the number of an answer, and what the out-parameters hold after it
+abbrev pub pair_number : PairAnswer → ℕ
+pair_number (Ok (r, s)) = 0
+pair_number (Err (pair.First e)) = number_of e
+pair_number (Err (pair.Second e)) = number_of e
+
+abbrev pub pair_outs : Outs → PairAnswer → Outs
+pair_outs o (Ok (r, s)) = outs r.start s.start o.which
+pair_outs o (Err (pair.First e)) = outs o.first o.second 1
+pair_outs o (Err (pair.Second e)) = outs o.first o.second 2
 
 -- what `two` does, its number, and the out-parameters
 pub record Offered (a : List ℕ) (q : Constraint) (b : List ℕ) (w : Constraint) (o : Outs) (r : ℕ) (a' b' : List ℕ) (o' : Outs) : Type 0 where
-  pub answer : Pair
+  pub answer : PairAnswer
   pub number : r ≡ pair_number answer
   pub out : o' ≡ pair_outs o answer
   pub done : both.Pairs a q b w answer a' b'
@@ -92,25 +95,29 @@ pub record OutsThree : Type 0 where
 abbrev pub outs_three : ℕ → ℕ → ℕ → ℕ → OutsThree
 outs_three first second id which = record { first = first; second = second; id = id; which = which }
 
-abbrev pub triple_number : Triple → ℕ
-triple_number (triple.All r s i) = 0
-triple_number (triple.First e) = number_of e
-triple_number (triple.Second e) = number_of e
-triple_number (triple.Third e) = number_of e
+-- what asking all three answers
+abbrev pub TripleAnswer : Type 0
+TripleAnswer = Result (RangeInclusive × RangeInclusive × ℕ) TripleError
+
+abbrev pub triple_number : TripleAnswer → ℕ
+triple_number (Ok (r, s, i)) = 0
+triple_number (Err (triple.First e)) = number_of e
+triple_number (Err (triple.Second e)) = number_of e
+triple_number (Err (triple.Third e)) = number_of e
 
 -- with another number for whose refusal it was
 abbrev pub whose : OutsThree → ℕ → OutsThree
 whose o which = outs_three o.first o.second o.id which
 
-abbrev pub triple_outs : OutsThree → Triple → OutsThree
-triple_outs o (triple.All r s i) = outs_three r.start s.start i o.which
-triple_outs o (triple.First e) = whose o 1
-triple_outs o (triple.Second e) = whose o 2
-triple_outs o (triple.Third e) = whose o 3
+abbrev pub triple_outs : OutsThree → TripleAnswer → OutsThree
+triple_outs o (Ok (r, s, i)) = outs_three r.start s.start i o.which
+triple_outs o (Err (triple.First e)) = whose o 1
+triple_outs o (Err (triple.Second e)) = whose o 2
+triple_outs o (Err (triple.Third e)) = whose o 3
 
 -- what `three` does, its number, and the out-parameters
 pub record OfferedThree (a : List ℕ) (q : Constraint) (b : List ℕ) (w : Constraint) (c : List ℕ) (o : OutsThree) (r : ℕ) (a' b' c' : List ℕ) (o' : OutsThree) : Type 0 where
-  pub answer : Triple
+  pub answer : TripleAnswer
   pub number : r ≡ triple_number answer
   pub out : o' ≡ triple_outs o answer
   pub done : both.Triples a q b w c answer a' b' c'

@@ -2,27 +2,20 @@
 // 1 or 2 for a pool, 3 for the ids. The other out-parameters are written only where all is granted.
 ghost use Rattle.rangekeeper_together.specs.Together.{Requests, Offers, OffersThree, asked, outs, outs_three};
 
-use both::{Pair, Triple};
-use ranges::{AllocPolicy, Constraint, Error, PolicyMade};
+use both::{PairError, TripleError};
+use ranges::{AllocPolicy, Constraint, Error};
 
 // A request in numbers, if its policy is one.
-#[derive(Clone, Copy)]
-enum Request {
-    Made(Constraint),
-    Strange,
-}
-
-fn read(size: u64, align: u64, policy: u32, address: u64) -> Request
+fn read(size: u64, align: u64, policy: u32, address: u64) -> Option<Constraint>
     ensures { Requests (asked size align policy address) result }
 {
-    let made = AllocPolicy::from_number(policy, address);
-    match made {
-        PolicyMade::Refused(_) => Request::Strange,
-        PolicyMade::Made(p) => Request::Made(Constraint {
+    match AllocPolicy::from_number(policy, address) {
+        Ok(policy) => Some(Constraint {
             size,
             align,
-            policy: p,
+            policy,
         }),
+        Err(_) => None,
     }
 }
 
@@ -45,31 +38,25 @@ pub extern "C" fn rk_both(
 ) -> u32
     ensures { Offers first.old (asked size1 align1 policy1 address1) second.old (asked size2 align2 policy2 address2) (outs start1.old start2.old refused.old) result first.new second.new (outs start1.new start2.new refused.new) }
 {
-    let one = read(size1, align1, policy1, address1);
-    let Request::Made(q) = one else {
+    let Some(q) = read(size1, align1, policy1, address1) else {
         *refused = 1;
         return Error::InvalidPolicy.number();
     };
-    let two = read(size2, align2, policy2, address2);
-    let Request::Made(w) = two else {
+    let Some(w) = read(size2, align2, policy2, address2) else {
         *refused = 2;
         return Error::InvalidPolicy.number();
     };
-    let answer = both::two(first, q, second, w);
-    match answer {
-        Pair::Both {
-            first: r,
-            second: s,
-        } => {
+    match both::two(first, q, second, w) {
+        Ok((r, s)) => {
             *start1 = r.start;
             *start2 = s.start;
             0
         }
-        Pair::First(e) => {
+        Err(PairError::First(e)) => {
             *refused = 1;
             e.number()
         }
-        Pair::Second(e) => {
+        Err(PairError::Second(e)) => {
             *refused = 2;
             e.number()
         }
@@ -97,37 +84,30 @@ pub extern "C" fn rk_all_three(
 ) -> u32
     ensures { OffersThree first.old (asked size1 align1 policy1 address1) second.old (asked size2 align2 policy2 address2) ids.old (outs_three start1.old start2.old id.old refused.old) result first.new second.new ids.new (outs_three start1.new start2.new id.new refused.new) }
 {
-    let one = read(size1, align1, policy1, address1);
-    let Request::Made(q) = one else {
+    let Some(q) = read(size1, align1, policy1, address1) else {
         *refused = 1;
         return Error::InvalidPolicy.number();
     };
-    let two = read(size2, align2, policy2, address2);
-    let Request::Made(w) = two else {
+    let Some(w) = read(size2, align2, policy2, address2) else {
         *refused = 2;
         return Error::InvalidPolicy.number();
     };
-    let answer = both::three(first, q, second, w, ids);
-    match answer {
-        Triple::All {
-            first: x,
-            second: y,
-            id: i,
-        } => {
+    match both::three(first, q, second, w, ids) {
+        Ok((x, y, i)) => {
             *start1 = x.start;
             *start2 = y.start;
             *id = i;
             0
         }
-        Triple::First(e) => {
+        Err(TripleError::First(e)) => {
             *refused = 1;
             e.number()
         }
-        Triple::Second(e) => {
+        Err(TripleError::Second(e)) => {
             *refused = 2;
             e.number()
         }
-        Triple::Third(e) => {
+        Err(TripleError::Third(e)) => {
             *refused = 3;
             e.number()
         }

@@ -2,3 +2,4 @@
 pub mod Powers
 pub mod ReasonLaws
 pub mod CountLaws
+pub mod Equalities

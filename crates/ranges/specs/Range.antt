@@ -1,9 +1,7 @@
 -- Closed ranges of 64-bit addresses.
-use Rattle.std.specs.Prelude.{◌≡◌, ℕ, ◌+◌, ◌-◌, ◌^◌, ◌<◌, ◌≤◌}
+use Rattle.std.specs.Prelude.{◌≡◌, ℕ, ◌+◌, ◌-◌, ◌^◌, ◌<◌, ◌≤◌, Result, Ok, Err}
 use Rattle.ranges.specs.declared.Error.{Error}
 use Rattle.ranges.specs.declared.RangeInclusive.{RangeInclusive}
-use Rattle.ranges.specs.declared.RangeMade.{RangeMade}
-use Rattle.ranges.specs.declared.RangeMade.TheVariants.{Made, Refused}
 
 -- a pair is a range if it is in order and its length fits 64 bits
 abbrev pub IsRange : ℕ → ℕ → Type 0
@@ -27,6 +25,6 @@ pub record Counts (r : RangeInclusive) (n : ℕ) : Type 0 where
   pub of_none : (IsRange r.start r.end → ⊥) → n ≡ 0
 
 -- what making a range of s and e answers
-abbrev pub MakesRange : ℕ → ℕ → RangeMade → Type 0
-MakesRange s e (Made r) = (r.start ≡ s) × (r.end ≡ e) × IsRange s e
-MakesRange s e (Refused x) = (x ≡ Error.InvalidRange) × (IsRange s e → ⊥)
+abbrev pub MakesRange : ℕ → ℕ → Result RangeInclusive Error → Type 0
+MakesRange s e (Ok r) = (r.start ≡ s) × (r.end ≡ e) × IsRange s e
+MakesRange s e (Err x) = (x ≡ Error.InvalidRange) × (IsRange s e → ⊥)

@@ -1,12 +1,10 @@
 -- Requests: a size, an alignment and a policy.
-use Rattle.std.specs.Prelude.{◌≡◌, ℕ, ◌<◌, ◌⊎◌}
+use Rattle.std.specs.Prelude.{◌≡◌, ℕ, ◌<◌, ◌⊎◌, Result, Ok, Err}
 use Rattle.ranges.specs.Align.{PowerOfTwo, Multiple}
 use Rattle.ranges.specs.declared.Error.{Error}
 use Rattle.ranges.specs.declared.AllocPolicy.{AllocPolicy}
 use Rattle.ranges.specs.declared.AllocPolicy.TheVariants.{FirstMatch, LastMatch, ExactMatch}
-use Rattle.ranges.specs.declared.PolicyMade.{PolicyMade}
-use Rattle.ranges.specs.declared.ConstraintMade.{ConstraintMade}
-use Rattle.ranges.specs.declared.ConstraintMade.TheVariants.{Made, Refused}
+use Rattle.ranges.specs.declared.Constraint.{Constraint}
 
 -- the policy that a number stands for: 0 first, 1 last, 2 exact at an address
 abbrev pub Stands : ℕ → ℕ → AllocPolicy → Type 0
@@ -15,9 +13,9 @@ Stands kind at LastMatch = kind ≡ 1
 Stands kind at (ExactMatch a) = (kind ≡ 2) × (a ≡ at)
 
 -- what reading a policy from outside answers
-abbrev pub MakesPolicy : ℕ → ℕ → PolicyMade → Type 0
-MakesPolicy kind at (PolicyMade.Made p) = Stands kind at p
-MakesPolicy kind at (PolicyMade.Refused e) = (e ≡ Error.InvalidPolicy) × ((p : AllocPolicy) → Stands kind at p → ⊥)
+abbrev pub MakesPolicy : ℕ → ℕ → Result AllocPolicy Error → Type 0
+MakesPolicy kind at (Ok p) = Stands kind at p
+MakesPolicy kind at (Err e) = (e ≡ Error.InvalidPolicy) × ((p : AllocPolicy) → Stands kind at p → ⊥)
 
 -- an exact address is a multiple of the alignment
 abbrev pub Aligned : ℕ → AllocPolicy → Type 0
@@ -32,10 +30,10 @@ pub record Proper (size align : ℕ) (policy : AllocPolicy) : Type 0 where
   pub aligned : Aligned align policy
 
 -- what making a request answers; the refusals in their order
-abbrev pub MakesConstraint : ℕ → ℕ → AllocPolicy → ConstraintMade → Type 0
-MakesConstraint size align policy (Made c) =
+abbrev pub MakesConstraint : ℕ → ℕ → AllocPolicy → Result Constraint Error → Type 0
+MakesConstraint size align policy (Ok c) =
     (c.size ≡ size) × (c.align ≡ align) × (c.policy ≡ policy) × Proper size align policy
-MakesConstraint size align policy (Refused e) =
+MakesConstraint size align policy (Err e) =
     ((e ≡ Error.InvalidSize) × (size ≡ 0))
     ⊎ (((e ≡ Error.InvalidAlignment) × (0 < size) × (PowerOfTwo align → ⊥))
     ⊎ ((e ≡ Error.UnalignedAddress) × (0 < size) × PowerOfTwo align × (Aligned align policy → ⊥)))

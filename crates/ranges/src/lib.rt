@@ -8,8 +8,10 @@ ghost use Rattle.ranges.specs.Range.{Overlap, Contains, Counts, MakesRange};
 ghost use Rattle.ranges.specs.Reasons.{number_of};
 ghost use Rattle.ranges.specs.Request.{MakesPolicy, MakesConstraint};
 
+use std::fmt;
+
 // Why an operation is refused. The order is that of the numbers, which never change.
-#[derive(Clone, Copy)]
+#[derive(Clone, Copy, Debug, PartialEq, Eq)]
 pub enum Error {
     Overflow,
     OutOfRange,
@@ -29,52 +31,49 @@ pub enum Error {
     NoState,
 }
 
+impl fmt::Display for Error {
+    fn fmt<W: fmt::Write>(&self, f: &mut fmt::Formatter<W>) -> fmt::Result {
+        f.write_str(match self {
+            Error::Overflow => "overflow",
+            Error::OutOfRange => "out of range",
+            Error::AlreadyReleased => "already released",
+            Error::NeverAllocated => "never allocated",
+            Error::ResourceNotAvailable => "not available",
+            Error::InvalidRange => "invalid range",
+            Error::InvalidAlignment => "invalid alignment",
+            Error::UnalignedAddress => "unaligned",
+            Error::Underflow => "underflow",
+            Error::InvalidSize => "invalid size",
+            Error::NoRoom => "no room",
+            Error::InvalidPolicy => "invalid policy",
+            Error::NoState => "no state",
+        })
+    }
+}
+
+impl std::error::Error for Error {}
+
 // Both ends belong to the range.
-#[derive(Clone, Copy)]
+#[derive(Clone, Copy, Debug, PartialEq, Eq)]
 pub struct RangeInclusive {
     pub start: u64,
     pub end: u64,
 }
 
-#[derive(Clone, Copy)]
-pub enum RangeMade {
-    Made(RangeInclusive),
-    Refused(Error),
-}
-
 // Where a range is wanted: as low as it fits, as high as it fits, or at one address.
-#[derive(Clone, Copy)]
+#[derive(Clone, Copy, Debug, PartialEq, Eq)]
 pub enum AllocPolicy {
     FirstMatch,
     LastMatch,
     ExactMatch(u64),
 }
 
-#[derive(Clone, Copy)]
-pub enum PolicyMade {
-    Made(AllocPolicy),
-    Refused(Error),
-}
-
 // A request for `size` addresses from a multiple of `align` on.
-#[derive(Clone, Copy)]
+#[derive(Clone, Copy, Debug, PartialEq, Eq)]
 pub struct Constraint {
     pub size: u64,
     pub align: u64,
     pub policy: AllocPolicy,
-}
-
-#[derive(Clone, Copy)]
-pub enum ConstraintMade {
-    Made(Constraint),
-    Refused(Error),
-}
-
-// A rounded address.
-#[derive(Clone, Copy)]
-pub enum Rounded {
-    At(u64),
-    Refused(Error),
 }
 
 impl Error {
@@ -102,16 +101,13 @@ impl Error {
 
 impl RangeInclusive {
     // Refused: a start above the end, and the whole of the 64-bit addresses, whose length does not fit.
-    pub fn new(start: u64, end: u64) -> RangeMade
+    pub fn new(start: u64, end: u64) -> Result<RangeInclusive, Error>
         ensures { MakesRange start end result }
     {
-        if end < start {
-            return RangeMade::Refused(Error::InvalidRange);
+        if end < start || end - start == u64::MAX {
+            return Err(Error::InvalidRange);
         }
-        if end - start == u64::MAX {
-            return RangeMade::Refused(Error::InvalidRange);
-        }
-        RangeMade::Made(RangeInclusive { start, end })
+        Ok(RangeInclusive { start, end })
     }
 
     pub fn start(self) -> u64
@@ -133,79 +129,63 @@ impl RangeInclusive {
         if self.end < self.start {
             return 0;
         }
-        std::num::wrapping_add_u64(self.end - self.start, 1)
+        (self.end - self.start).wrapping_add(1)
     }
 
     // Whether the two have an address in common.
     pub fn overlaps(self, other: RangeInclusive) -> bool
         ensures { Decides result (Overlap self other) }
     {
-        let low = if self.start < other.start {
-            other.start
-        } else {
-            self.start
-        };
-        let high = if self.end < other.end {
-            self.end
-        } else {
-            other.end
-        };
-        if low <= high { true } else { false }
+        self.start.max(other.start) <= self.end.min(other.end)
     }
 
     // Whether every address of the other is one of this range.
     pub fn contains(self, other: RangeInclusive) -> bool
         ensures { Decides result (Contains self other) }
     {
-        if other.end < other.start {
-            return true;
-        }
-        if self.start <= other.start {
-            if other.end <= self.end {
-                return true;
-            }
-        }
-        false
+        other.end < other.start || self.start <= other.start && other.end <= self.end
+    }
+}
+
+impl fmt::Display for RangeInclusive {
+    fn fmt<W: fmt::Write>(&self, f: &mut fmt::Formatter<W>) -> fmt::Result {
+        write!(f, "0x{:x}..0x{:x}", self.start, self.end)
     }
 }
 
 impl AllocPolicy {
     // The policy that a number from outside stands for: 0 first, 1 last, 2 exact at the address, which
     // the other two do not look at.
-    pub fn from_number(kind: u32, address: u64) -> PolicyMade
+    pub fn from_number(kind: u32, address: u64) -> Result<AllocPolicy, Error>
         ensures { MakesPolicy kind address result }
     {
-        if kind == 0 {
-            return PolicyMade::Made(AllocPolicy::FirstMatch);
+        match kind {
+            0 => Ok(AllocPolicy::FirstMatch),
+            1 => Ok(AllocPolicy::LastMatch),
+            2 => Ok(AllocPolicy::ExactMatch(address)),
+            _ => Err(Error::InvalidPolicy),
         }
-        if kind == 1 {
-            return PolicyMade::Made(AllocPolicy::LastMatch);
-        }
-        if kind == 2 {
-            return PolicyMade::Made(AllocPolicy::ExactMatch(address));
-        }
-        PolicyMade::Refused(Error::InvalidPolicy)
     }
 }
 
 impl Constraint {
     // Refused, in this order: size 0; an alignment that is no power of two; an exact address that is
     // no multiple of the alignment.
-    pub fn new(size: u64, align: u64, policy: AllocPolicy) -> ConstraintMade
+    pub fn new(size: u64, align: u64, policy: AllocPolicy) -> Result<Constraint, Error>
         ensures { MakesConstraint size align policy result }
     {
         if size == 0 {
-            return ConstraintMade::Refused(Error::InvalidSize);
+            return Err(Error::InvalidSize);
         }
         if !is_power_of_two(align) {
-            return ConstraintMade::Refused(Error::InvalidAlignment);
+            return Err(Error::InvalidAlignment);
         }
         if let AllocPolicy::ExactMatch(at) = policy {
             if at & (align - 1) != 0 {
-                return ConstraintMade::Refused(Error::UnalignedAddress);
+                return Err(Error::UnalignedAddress);
             }
         }
-        ConstraintMade::Made(Constraint {
+        Ok(Constraint {
             size,
             align,
             policy,
@@ -217,31 +197,28 @@ impl Constraint {
 pub fn is_power_of_two(x: u64) -> bool
     ensures { Decides result (PowerOfTwo x) }
 {
-    if u64::count_ones(x) == 1 { true } else { false }
+    x.is_power_of_two()
 }
 
 // The greatest multiple of k that is not above a, where k is a power of two.
-pub fn align_down(a: u64, k: u64) -> Rounded
+pub fn align_down(a: u64, k: u64) -> Result<u64, Error>
     ensures { RoundedDown a k result }
 {
     if !is_power_of_two(k) {
-        return Rounded::Refused(Error::InvalidAlignment);
+        return Err(Error::InvalidAlignment);
     }
-    Rounded::At(a - (a & (k - 1)))
+    Ok(a - (a & (k - 1)))
 }
 
 // The least multiple of k that is not below a, where k is a power of two; "overflow" where that
 // does not fit 64 bits.
-pub fn align_up(a: u64, k: u64) -> Rounded
+pub fn align_up(a: u64, k: u64) -> Result<u64, Error>
     ensures { RoundedUp a k result }
 {
     if !is_power_of_two(k) {
-        return Rounded::Refused(Error::InvalidAlignment);
+        return Err(Error::InvalidAlignment);
     }
     let m = k - 1;
-    if u64::MAX - m < a {
-        return Rounded::Refused(Error::Overflow);
-    }
-    let t = a + m;
-    Rounded::At(t - (t & m))
+    let t = a.checked_add(m).ok_or(Error::Overflow)?;
+    Ok(t - (t & m))
 }

@@ -1,112 +1,67 @@
 // Worked values of ranges, alignment and requests, a line for each answer, held to the stored output.
 #![tactic(auto)]
 
-use ranges::{
-    AllocPolicy, Constraint, ConstraintMade, Error, PolicyMade, RangeInclusive, RangeMade, Rounded,
-};
+use ranges::{AllocPolicy, Constraint, Error, RangeInclusive};
 use std::io;
 
 fn pair(start: u64, end: u64) -> RangeInclusive {
     RangeInclusive { start, end }
 }
 
-fn yes(rt: &impl Print, b: bool) -> io::Result<()> {
-    if b {
-        say::text(rt, b"yes\n")
-    } else {
-        say::text(rt, b"no\n")
-    }
+fn yes(b: bool) -> &'static str {
+    if b { "yes" } else { "no" }
 }
 
 fn made(rt: &impl Print, start: u64, end: u64) -> io::Result<()> {
-    say::text(rt, b"range ")?;
-    say::window(rt, pair(start, end))?;
-    say::text(rt, b": ")?;
+    print!(rt; "range {}: ", pair(start, end))?;
     match RangeInclusive::new(start, end) {
-        RangeMade::Made(r) => {
-            say::text(rt, b"length ")?;
-            say::hex(rt, r.len())?;
-        }
-        RangeMade::Refused(e) => say::reason(rt, e)?,
+        Ok(r) => println!(rt; "length {:#x}", r.len()),
+        Err(e) => println!(rt; "{e}"),
     }
-    say::text(rt, b"\n")
 }
 
 fn both(rt: &impl Print, a: RangeInclusive, b: RangeInclusive) -> io::Result<()> {
-    say::window(rt, a)?;
-    say::text(rt, b" overlaps ")?;
-    say::window(rt, b)?;
-    say::text(rt, b": ")?;
-    yes(rt, a.overlaps(b))
+    println!(rt; "{a} overlaps {b}: {}", yes(a.overlaps(b)))
 }
 
 fn within(rt: &impl Print, a: RangeInclusive, b: RangeInclusive) -> io::Result<()> {
-    say::window(rt, a)?;
-    say::text(rt, b" contains ")?;
-    say::window(rt, b)?;
-    say::text(rt, b": ")?;
-    yes(rt, a.contains(b))
+    println!(rt; "{a} contains {b}: {}", yes(a.contains(b)))
 }
 
-fn rounded(rt: &impl Print, r: Rounded) -> io::Result<()> {
+fn rounded(rt: &impl Print, r: Result<u64, Error>) -> io::Result<()> {
     match r {
-        Rounded::At(x) => say::hex(rt, x)?,
-        Rounded::Refused(e) => say::reason(rt, e)?,
+        Ok(x) => println!(rt; "{x:#x}"),
+        Err(e) => println!(rt; "{e}"),
     }
-    say::text(rt, b"\n")
 }
 
 fn round(rt: &impl Print, a: u64, k: u64) -> io::Result<()> {
-    say::text(rt, b"align ")?;
-    say::hex(rt, a)?;
-    say::text(rt, b" to ")?;
-    say::hex(rt, k)?;
-    say::text(rt, b" down: ")?;
+    print!(rt; "align {a:#x} to {k:#x} down: ")?;
     rounded(rt, ranges::align_down(a, k))?;
-    say::text(rt, b"align ")?;
-    say::hex(rt, a)?;
-    say::text(rt, b" to ")?;
-    say::hex(rt, k)?;
-    say::text(rt, b" up: ")?;
+    print!(rt; "align {a:#x} to {k:#x} up: ")?;
     rounded(rt, ranges::align_up(a, k))
 }
 
 fn request(rt: &impl Print, size: u64, align: u64, policy: AllocPolicy) -> io::Result<()> {
-    say::text(rt, b"request of ")?;
-    say::hex(rt, size)?;
-    say::text(rt, b" at ")?;
-    say::hex(rt, align)?;
-    say::text(rt, b": ")?;
+    print!(rt; "request of {size:#x} at {align:#x}: ")?;
     match Constraint::new(size, align, policy) {
-        ConstraintMade::Made(_) => say::text(rt, b"in order")?,
-        ConstraintMade::Refused(e) => say::reason(rt, e)?,
+        Ok(_) => println!(rt; "in order"),
+        Err(e) => println!(rt; "{e}"),
     }
-    say::text(rt, b"\n")
 }
 
 fn policy(rt: &impl Print, kind: u32) -> io::Result<()> {
-    say::text(rt, b"policy ")?;
-    say::hex(rt, kind as u64)?;
-    say::text(rt, b": ")?;
+    print!(rt; "policy {kind:#x}: ")?;
     match AllocPolicy::from_number(kind, 0x1000) {
-        PolicyMade::Made(p) => match p {
-            AllocPolicy::FirstMatch => say::text(rt, b"first")?,
-            AllocPolicy::LastMatch => say::text(rt, b"last")?,
-            AllocPolicy::ExactMatch(a) => {
-                say::text(rt, b"exact at ")?;
-                say::hex(rt, a)?;
-            }
-        },
-        PolicyMade::Refused(e) => say::reason(rt, e)?,
+        Ok(AllocPolicy::FirstMatch) => println!(rt; "first"),
+        Ok(AllocPolicy::LastMatch) => println!(rt; "last"),
+        Ok(AllocPolicy::ExactMatch(a)) => println!(rt; "exact at {a:#x}"),
+        Err(e) => println!(rt; "{e}"),
     }
-    say::text(rt, b"\n")
 }
 
 fn numbered(rt: &impl Print, e: Error) -> io::Result<()> {
-    say::hex(rt, e.number() as u64)?;
-    say::text(rt, b" ")?;
-    say::reason(rt, e)?;
-    say::text(rt, b"\n")
+    println!(rt; "{:#x} {e}", e.number())
 }
 
 fn main(rt: HostRuntime) -> io::Result<()> {

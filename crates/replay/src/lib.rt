@@ -1,75 +1,50 @@
 // Carries a line's operation out on a lent block: with no claim it is answered, with a claim the claim is judged.
-// Every function is total: a line that is no operation of the block's kind, or claims what its operation cannot answer, changes nothing.
+// Every function is total: a line that is wrong, is no operation of the block's kind, or claims what its operation cannot answer, changes
+// nothing.
 #![tactic(auto)]
 
 ghost use Rattle.replay.specs.Wanted.{pool_wants, pool_allocates, pool_frees, id_wants, id_allocates, id_frees};
 ghost use Rattle.replay.specs.Replayed.{OnPool, OnIds};
 
+use addresses::Answer;
 use claims::Claim;
+use fields::Wrong;
 use lines::Line;
-use ranges::{AllocPolicy, RangeInclusive};
+use ranges::{AllocPolicy, Error, RangeInclusive};
+use verdict::Verdict;
 
-// What became of a line on a pool.
+// What became of a line on a block that answers with an A.
 #[derive(Clone, Copy)]
-pub enum PoolOutcome {
-    // it is no operation on a pool, or claims what its operation cannot answer
+pub enum Outcome<A> {
+    // it is wrong, no operation on such a block, or claims what its operation cannot answer
     Unfit,
-    Answered(addresses::Answer),
-    Judged(pool_audit::Verdict),
-}
-
-// What became of a line on an interval of ids.
-#[derive(Clone, Copy)]
-pub enum IdOutcome {
-    Unfit,
-    Answered(ids::Answer),
-    Judged(id_audit::Verdict),
+    Answered(A),
+    Judged(Verdict<A>),
 }
 
 // Carries a line out on an address pool.
-pub fn on_pool(mem: &mut [u64], line: Line) -> PoolOutcome
+pub fn on_pool(mem: &mut [u64], line: Result<Line, Wrong>) -> Outcome<Answer>
     ensures { OnPool mem.old (pool_wants line) result mem.new }
 {
     match line {
-        Line::Allocate {
-            name: _,
-            size,
-            align,
-            policy,
-            claim,
-        } => pool_allocate(mem, size, align, policy, claim),
-        Line::Free {
-            name: _,
-            start,
-            end,
-            claim,
-        } => pool_free(mem, start, end, claim),
-        Line::Blank => PoolOutcome::Unfit,
-        Line::Pool {
-            name: _,
-            base: _,
-            size: _,
-            limit: _,
-        } => PoolOutcome::Unfit,
-        Line::Ids {
-            name: _,
-            low: _,
-            high: _,
-        } => PoolOutcome::Unfit,
-        Line::AllocateId { name: _, claim: _ } => PoolOutcome::Unfit,
-        Line::FreeId {
-            name: _,
-            id: _,
-            claim: _,
-        } => PoolOutcome::Unfit,
-        Line::Show { name: _ } => PoolOutcome::Unfit,
-        Line::InUse {
-            name: _,
-            id: _,
-            claim: _,
-        } => PoolOutcome::Unfit,
-        Line::Together { count: _ } => PoolOutcome::Unfit,
-        Line::Wrong { why: _, at: _ } => PoolOutcome::Unfit,
+        Ok(
+            Line::Allocate {
+                size,
+                align,
+                policy,
+                claim,
+                ..
+            },
+        ) => pool_allocate(mem, size, align, policy, claim),
+        Ok(
+            Line::Free {
+                start,
+                end,
+                claim,
+                ..
+            },
+        ) => pool_free(mem, start, end, claim),
+        _ => Outcome::Unfit,
     }
 }
 
@@ -79,150 +54,67 @@ fn pool_allocate(
     align: u64,
     policy: AllocPolicy,
     claim: Claim,
-) -> PoolOutcome
+) -> Outcome<Answer>
     ensures { OnPool mem.old (pool_allocates size align policy claim) result mem.new }
 {
-    match claim {
+    let said = match claim {
         Claim::Unsaid => {
-            let answer = addresses::allocate(mem, size, align, policy);
-            PoolOutcome::Answered(answer)
+            return Outcome::Answered(Answer::granted(addresses::allocate(
+                mem, size, align, policy,
+            )));
         }
-        Claim::Window(start, end) => {
-            let said = addresses::Answer::Granted(RangeInclusive { start, end });
-            let verdict = pool_audit::allocate(mem, size, align, policy, said);
-            PoolOutcome::Judged(verdict)
-        }
-        Claim::Refused(e) => {
-            let said = addresses::Answer::Refused(e);
-            let verdict = pool_audit::allocate(mem, size, align, policy, said);
-            PoolOutcome::Judged(verdict)
-        }
-        Claim::Id(_) => PoolOutcome::Unfit,
-        Claim::Freed => PoolOutcome::Unfit,
-        Claim::Yes => PoolOutcome::Unfit,
-        Claim::No => PoolOutcome::Unfit,
-    }
+        Claim::Window(start, end) => Answer::Granted(RangeInclusive { start, end }),
+        Claim::Refused(e) => Answer::Refused(e),
+        _ => return Outcome::Unfit,
+    };
+    Outcome::Judged(pool_audit::allocate(mem, size, align, policy, said))
 }
 
-fn pool_free(mem: &mut [u64], start: u64, end: u64, claim: Claim) -> PoolOutcome
+fn pool_free(mem: &mut [u64], start: u64, end: u64, claim: Claim) -> Outcome<Answer>
     ensures { OnPool mem.old (pool_frees start end claim) result mem.new }
 {
-    match claim {
-        Claim::Unsaid => {
-            let answer = addresses::free(mem, start, end);
-            PoolOutcome::Answered(answer)
-        }
-        Claim::Freed => {
-            let said = addresses::Answer::Freed(RangeInclusive { start, end });
-            let verdict = pool_audit::free(mem, start, end, said);
-            PoolOutcome::Judged(verdict)
-        }
-        Claim::Refused(e) => {
-            let said = addresses::Answer::Refused(e);
-            let verdict = pool_audit::free(mem, start, end, said);
-            PoolOutcome::Judged(verdict)
-        }
-        Claim::Window(_, _) => PoolOutcome::Unfit,
-        Claim::Id(_) => PoolOutcome::Unfit,
-        Claim::Yes => PoolOutcome::Unfit,
-        Claim::No => PoolOutcome::Unfit,
-    }
+    let said = match claim {
+        Claim::Unsaid => return Outcome::Answered(Answer::freed(addresses::free(mem, start, end))),
+        Claim::Freed => Answer::Freed(RangeInclusive { start, end }),
+        Claim::Refused(e) => Answer::Refused(e),
+        _ => return Outcome::Unfit,
+    };
+    Outcome::Judged(pool_audit::free(mem, start, end, said))
 }
 
 // Carries a line out on an interval of ids.
-pub fn on_ids(mem: &mut [u64], line: Line) -> IdOutcome
+pub fn on_ids(mem: &mut [u64], line: Result<Line, Wrong>) -> Outcome<Result<u32, Error>>
     ensures { OnIds mem.old (id_wants line) result mem.new }
 {
     match line {
-        Line::AllocateId { name: _, claim } => id_allocate(mem, claim),
-        Line::FreeId { name: _, id, claim } => id_free(mem, id, claim),
-        Line::Blank => IdOutcome::Unfit,
-        Line::Pool {
-            name: _,
-            base: _,
-            size: _,
-            limit: _,
-        } => IdOutcome::Unfit,
-        Line::Ids {
-            name: _,
-            low: _,
-            high: _,
-        } => IdOutcome::Unfit,
-        Line::Allocate {
-            name: _,
-            size: _,
-            align: _,
-            policy: _,
-            claim: _,
-        } => IdOutcome::Unfit,
-        Line::Free {
-            name: _,
-            start: _,
-            end: _,
-            claim: _,
-        } => IdOutcome::Unfit,
-        Line::Show { name: _ } => IdOutcome::Unfit,
-        Line::InUse {
-            name: _,
-            id: _,
-            claim: _,
-        } => IdOutcome::Unfit,
-        Line::Together { count: _ } => IdOutcome::Unfit,
-        Line::Wrong { why: _, at: _ } => IdOutcome::Unfit,
+        Ok(Line::AllocateId { claim, .. }) => id_allocate(mem, claim),
+        Ok(Line::FreeId { id, claim, .. }) => id_free(mem, id, claim),
+        _ => Outcome::Unfit,
     }
 }
 
-fn id_allocate(mem: &mut [u64], claim: Claim) -> IdOutcome
+fn id_allocate(mem: &mut [u64], claim: Claim) -> Outcome<Result<u32, Error>>
     ensures { OnIds mem.old (id_allocates claim) result mem.new }
 {
-    match claim {
-        Claim::Unsaid => {
-            let answer = ids::allocate(mem);
-            IdOutcome::Answered(answer)
-        }
-        Claim::Id(n) => {
-            let said = ids::Answer::Id(n);
-            let verdict = id_audit::allocate(mem, said);
-            IdOutcome::Judged(verdict)
-        }
-        Claim::Refused(e) => {
-            let said = ids::Answer::Refused(e);
-            let verdict = id_audit::allocate(mem, said);
-            IdOutcome::Judged(verdict)
-        }
-        Claim::Window(_, _) => IdOutcome::Unfit,
-        Claim::Freed => IdOutcome::Unfit,
-        Claim::Yes => IdOutcome::Unfit,
-        Claim::No => IdOutcome::Unfit,
-    }
+    let said = match claim {
+        Claim::Unsaid => return Outcome::Answered(ids::allocate(mem)),
+        Claim::Id(n) => Ok(n),
+        Claim::Refused(e) => Err(e),
+        _ => return Outcome::Unfit,
+    };
+    Outcome::Judged(id_audit::allocate(mem, said))
 }
 
 // That an id is freed is claimed by `freed` or by the id.
-fn id_free(mem: &mut [u64], id: u32, claim: Claim) -> IdOutcome
+fn id_free(mem: &mut [u64], id: u32, claim: Claim) -> Outcome<Result<u32, Error>>
     ensures { OnIds mem.old (id_frees id claim) result mem.new }
 {
-    match claim {
-        Claim::Unsaid => {
-            let answer = ids::free(mem, id);
-            IdOutcome::Answered(answer)
-        }
-        Claim::Freed => {
-            let said = ids::Answer::Id(id);
-            let verdict = id_audit::free(mem, id, said);
-            IdOutcome::Judged(verdict)
-        }
-        Claim::Id(n) => {
-            let said = ids::Answer::Id(n);
-            let verdict = id_audit::free(mem, id, said);
-            IdOutcome::Judged(verdict)
-        }
-        Claim::Refused(e) => {
-            let said = ids::Answer::Refused(e);
-            let verdict = id_audit::free(mem, id, said);
-            IdOutcome::Judged(verdict)
-        }
-        Claim::Window(_, _) => IdOutcome::Unfit,
-        Claim::Yes => IdOutcome::Unfit,
-        Claim::No => IdOutcome::Unfit,
-    }
+    let said = match claim {
+        Claim::Unsaid => return Outcome::Answered(ids::free(mem, id)),
+        Claim::Freed => Ok(id),
+        Claim::Id(n) => Ok(n),
+        Claim::Refused(e) => Err(e),
+        _ => return Outcome::Unfit,
+    };
+    Outcome::Judged(id_audit::free(mem, id, said))
 }

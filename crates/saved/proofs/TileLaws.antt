@@ -3,7 +3,7 @@
 --     tiles_more       one range more at the end
 --     tiles_one        words say one row of a length at most
 --     tiles_words      one row is said by the same words
-use Rattle.std.proofs.Common.{◌≡◌, ℕ, zero, suc, ◌+◌, ◌*◌, ◌<◌, ◌≤◌, ◌⊎◌, List, [], ◌∷◌, ◌++◌, length, sym, refl, ap, ◌∙◌, subst, inl, inr, ⊎_elim, arith}
+use Rattle.std.proofs.Common.{◌≡◌, ℕ, ◌+◌, ◌*◌, ◌<◌, ◌≤◌, List, [], ◌∷◌, ◌++◌, length, sym, refl, ap, ◌∙◌, subst, ⊎_elim, arith}
 use Rattle.octets.proofs.Words.{below_or_not}
 use Rattle.table.specs.Row.{Tile}
 use Rattle.saved.specs.Format.{Tiles}

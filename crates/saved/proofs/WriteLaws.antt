@@ -3,16 +3,22 @@
 --     walked_start, walked_step    after i ranges the words say the first i tiles of the row
 --     walked_end                   and after all of them the row
 --     row_some                     a pool has a range
+--     numbers_none, not_numbered     how many ranges there are
 --     written                      the ranges and the frame around them are the pool
-use Rattle.std.proofs.Common.{◌≡◌, ℕ, zero, suc, ◌+◌, ◌-◌, ◌*◌, ◌%◌, ◌^◌, ◌<◌, ◌≤◌, ◌⊎◌, List, [], ◌∷◌, ◌++◌, length, get_or, sym, refl, ap, ◌∙◌, subst, inl, inr, ⊎_elim, append_assoc, append-nil, mod-eq_of_lt, arith, length-append}
-use Rattle.frame.specs.Frame.{Frame, Seals}
+use Rattle.std.proofs.Common.{◌≡◌, ℕ, ◌+◌, ◌-◌, ◌*◌, ◌%◌, ◌^◌, ◌<◌, ◌≤◌, ◌⊎◌, List, [], ◌∷◌, ◌++◌, length, sym, refl, ap, ◌∙◌, subst, inl, inr, append_assoc, append-nil, mod-eq_of_lt, arith, length-append, Option, None, Result, Ok, Err, IsErrAnd}
+use Rattle.std.specs.Option.{ok_or}
+use Rattle.frame.specs.Frame.{Seals}
+use Rattle.frame.specs.declared.SaveError.{SaveError}
+use Rattle.frame.specs.declared.SaveError.TheVariants.{NoState}
 use Rattle.frame.proofs.FrameLaws.{frame_same}
+use Rattle.frame.proofs.Passed.{handed, missing}
 use Rattle.octets.specs.Octets.{word, Puts}
 use Rattle.octets.proofs.Words.{put_word}
 use Rattle.table.specs.Row.{Tile, past, Covers}
 use Rattle.table.specs.Tiles.{Has}
 use Rattle.table.specs.declared.Stands.{Stands}
-use Rattle.table.specs.declared.Stands.TheVariants.{In, Outside, NoTable}
+use Rattle.table.specs.declared.AtError.{AtError}
+use Rattle.table.specs.declared.AtError.TheVariants.{Outside, NoTable}
 use Rattle.addresses.specs.Meaning.{row_of}
 use Rattle.addresses.specs.Operations.{Pool}
 use Rattle.addresses.specs.Runs.{Valid}
@@ -25,32 +31,31 @@ use Rattle.addresses.proofs.Tiles.{covers_cons}
 use Rattle.addresses.proofs.StepLaws.{has_in}
 use Rattle.addresses.proofs.WalkLaws.{Next, walk_step, behind_past, behind_top}
 use Rattle.saved.specs.Format.{kind, Tiles}
-use Rattle.saved.specs.declared.Saved.TheVariants.{Bytes}
-use Rattle.saved.specs.Contract.{Written, Saves}
-use Rattle.saved.specs.Steps.{Took, Carries, Rows}
+use Rattle.saved.specs.Contract.{Saves}
+use Rattle.saved.specs.Steps.{Numbers, Took, Carries, Rows}
 use Rattle.saved.proofs.TileLaws.{tiles_same, tiles_more}
 
 -- ---- one range
 
-pub nowhere : (m bs : List ℕ) (a i r : ℕ) (x : Stands) → Shows m a x → ((s e g : ℕ) → x ≡ In s e g → ⊥) → Carries m bs a i r bs
+pub nowhere : (m bs : List ℕ) (a i r : ℕ) (x : Result Stands AtError) → Shows m a x → ((y : Stands) → x ≡ Ok y → ⊥) → Carries m bs a i r bs
 unfolding Shows
-nowhere m bs a i r (In s e g) c k = absurd (k s e g refl)
-nowhere m bs a i r Outside c k = record { long = refl; front = λ j h. refl; behind = λ j h. refl; took = inr c }
-nowhere m bs a i r NoTable c k = record { long = refl; front = λ j h. refl; behind = λ j h. refl; took = inr (λ p h l u. c p h) }
+nowhere m bs a i r (Ok y) c k = absurd (k y refl)
+nowhere m bs a i r (Err Outside) c k = record { long = refl; front = λ j h. refl; behind = λ j h. refl; took = inr c }
+nowhere m bs a i r (Err NoTable) c k = record { long = refl; front = λ j h. refl; behind = λ j h. refl; took = inr (λ p h l u. c p h) }
 
-pub put_tile : (m u v w : List ℕ) (a i r s e g : ℕ) (x : Stands) → Shows m a x → x ≡ In s e g → 72 + 16 * i ≤ length u → Puts u (7 + 2 * i) s v → Puts v (8 + 2 * i) g w → r ≡ (e + 1) % 2 ^ 64 → Carries m u a i r w
+pub put_tile : (m u v w : List ℕ) (a i r : ℕ) (x : Stands) → Shows m a (Ok x) → 72 + 16 * i ≤ length u → Puts u (7 + 2 * i) x.start v → Puts v (8 + 2 * i) x.tag w → r ≡ (x.end + 1) % 2 ^ 64 → Carries m u a i r w
 unfolding Shows
-put_tile m u v w a i r s e g x c q l p o k = record {
+put_tile m u v w a i r x q l p o k = record {
   long = o.long ∙ p.long;
-  front = λ j h. put_word v w (8 + 2 * i) g o j (λ (z : j ≡ 8 + 2 * i). omega arith) ∙ put_word u v (7 + 2 * i) s p j (λ (z : j ≡ 7 + 2 * i). omega arith);
+  front = λ j h. put_word v w (8 + 2 * i) x.tag o j (λ (z : j ≡ 8 + 2 * i). omega arith) ∙ put_word u v (7 + 2 * i) x.start p j (λ (z : j ≡ 7 + 2 * i). omega arith);
   behind = λ j h. o.other j (inr (omega arith)) ∙ p.other j (inr (omega arith));
   took = inl (record {
-    start = s;
-    end = e;
-    tag = g;
-    stands = λ y h. subst (Shows m a) q c y h;
+    start = x.start;
+    end = x.end;
+    tag = x.tag;
+    stands = q;
     past = k;
-    one = put_word v w (8 + 2 * i) g o (7 + 2 * i) (λ (z : 7 + 2 * i ≡ 8 + 2 * i). omega arith) ∙ p.says (omega arith);
+    one = put_word v w (8 + 2 * i) x.tag o (7 + 2 * i) (λ (z : 7 + 2 * i ≡ 8 + 2 * i). omega arith) ∙ p.says (omega arith);
     two = o.says (omega (arith, p.long));
   });
 }
@@ -160,9 +165,21 @@ walked_end p i a bs f e =
     let q : f.xs ≡ row_of p.state = sym (f.row ∙ ap (λ (y : List Tile). f.xs ++ y) z ∙ append-nil f.xs) in
     subst (Tiles (word bs) 7) q f.words
 
+-- ---- how many ranges there are
+
+pub numbers_none : (m : List ℕ) (n : ℕ) → Says m (λ p. length (row_of p.state)) n → (n ≡ 0) ⊎ ((n ≡ 0 → ⊥) × (4096 < n)) → Numbers m None
+numbers_none m n c (inl e) p h = omega (arith, c p h, e, row_some p h.valid)
+numbers_none m n c (inr l) p h = omega (arith, c p h, l.1, h.valid.room, h.valid.most)
+
+pub not_numbered : (m bs : List ℕ) (o : Option ℕ) (r : Result ℕ SaveError) (e : SaveError) → Numbers m o → Err e ≡ ok_or o NoState → IsErrAnd r (λ y. y ≡ e) → Saves m bs r bs
+unfolding Saves
+not_numbered m bs o r e d q h =
+    let w = missing o NoState e q in
+    handed (λ x. Saves m bs x bs) r e h (subst (λ (x : SaveError). Saves m bs (Err x) bs) (sym w.1) (refl, subst (Numbers m) w.0 d))
+
 -- ---- the whole
 
-pub written : (m u v w : List ℕ) (base end limit n : ℕ) → 64 + 16 * n ≤ length u → Says m (λ p. length (row_of p.state)) n → Says m (λ p. p.state.base) base → Says m (λ p. p.state.top) (end + 1) → table.Says m (λ t. t.limit) limit → Rows m u base n v → Seals kind base end limit (2 * n) v w → Saves m u (Bytes (64 + 16 * n)) w
+pub written : (m u v w : List ℕ) (base end limit n : ℕ) → 64 + 16 * n ≤ length u → Says m (λ p. length (row_of p.state)) n → Says m (λ p. p.state.base) base → Says m (λ p. p.state.top) (end + 1) → table.Says m (λ t. t.limit) limit → Rows m u base n v → Seals kind base end limit (2 * n) v w → Saves m u (Ok (64 + 16 * n)) w
 unfolding Saves
 written m u v w base end limit n l count first last most r s = (
   s.long ∙ r.long,

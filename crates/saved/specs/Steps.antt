@@ -1,11 +1,17 @@
 -- What the private steps of `save` do: m is the allocator's block, bs are the bytes before, bs' after.
-use Rattle.std.specs.Prelude.{◌≡◌, ℕ, ◌+◌, ◌*◌, ◌%◌, ◌^◌, ◌<◌, ◌≤◌, ◌⊎◌, List, length, slice_index}
+use Rattle.std.specs.Prelude.{◌≡◌, ℕ, ◌+◌, ◌*◌, ◌%◌, ◌^◌, ◌<◌, ◌≤◌, ◌⊎◌, List, length, slice_index, Option, Some, None}
 use Rattle.octets.specs.Octets.{word}
 use Rattle.table.specs.Tiles.{Has}
 use Rattle.addresses.specs.Meaning.{row_of}
 use Rattle.addresses.specs.Operations.{Pool}
 use Rattle.addresses.specs.Held.{Holds}
+use Rattle.addresses.specs.Contract.{Says}
 use Rattle.saved.specs.Format.{Tiles}
+
+-- how many ranges the pool that the block holds has; or that it holds none
+abbrev pub Numbers : List ℕ → Option ℕ → Type 0
+Numbers m (Some n) = (n ≤ 4096) × Says m (λ p. length (row_of p.state)) n
+Numbers m None = (p : Pool) → Holds m p → ⊥
 
 -- what stands at the address a is written as range i, and r is the address past it
 pub record Took (m : List ℕ) (a i r : ℕ) (bs' : List ℕ) : Type 0 where

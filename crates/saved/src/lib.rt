@@ -2,36 +2,33 @@
 // public functions alone. Every public function is total: it demands nothing of its caller.
 #![tactic(auto)]
 
-ghost use Rattle.std.specs.Prelude.{◌≡◌, ◌+◌, ◌*◌, ◌≤◌, length};
+ghost use Rattle.std.specs.Prelude.{◌+◌, ◌*◌, ◌≤◌, length};
 ghost use Rattle.addresses.specs.Contract.{Says};
 ghost use Rattle.saved.specs.Format.{size};
 ghost use Rattle.saved.specs.Contract.{Saves};
-ghost use Rattle.saved.specs.Steps.{Carries, Rows};
+ghost use Rattle.saved.specs.Steps.{Numbers, Carries, Rows};
 
-use table::Stands;
+use frame::{Opened, SaveError};
 
 // The letters RKsavedA: what the first eight bytes of a saved address allocator are.
-const KIND: u64 = 0x4164_6576_6173_4b52;
+pub const KIND: u64 = 0x4164_6576_6173_4b52;
 
-// How many bytes were written, or why none.
-#[derive(Clone, Copy)]
-pub enum Saved {
-    Bytes(usize),
-    NoRoom,
-    NoState,
+// How many ranges the allocator has; none where the block's header is no allocator's.
+fn range_count(mem: &[u64]) -> Option<usize>
+    ensures { Numbers mem.now result }
+{
+    let n = addresses::count(mem);
+    if n == 0 || 4096 < n { None } else { Some(n) }
 }
 
 // How many bytes the allocator takes when it is saved; 0 where the block's header is no allocator's.
+// Kept a number and no Option: C asks it, and it could not fail.
 pub fn bytes(mem: &[u64]) -> usize
     ensures { Says mem.now size result }
 {
-    let n = addresses::count(mem);
-    if n == 0 {
+    let Some(n) = range_count(mem) else {
         return 0;
-    }
-    if 4096 < n {
-        return 0;
-    }
+    };
     64 + 16 * n
 }
 
@@ -40,13 +37,12 @@ fn carry(mem: &[u64], bs: &mut [u8], a: u64, i: usize) -> u64
     requires { 72 + 16 * i ≤ length bs.old }
     ensures { Carries mem.now bs.old a i result bs.new }
 {
-    let stands = addresses::at(mem, a);
-    let Stands::In { start, end, tag } = stands else {
+    let Ok(stands) = addresses::at(mem, a) else {
         return a;
     };
-    octets::put(bs, 7 + 2 * i, start);
-    octets::put(bs, 8 + 2 * i, tag);
-    std::num::wrapping_add_u64(end, 1)
+    octets::put(bs, 7 + 2 * i, stands.start);
+    octets::put(bs, 8 + 2 * i, stands.tag);
+    stands.end.wrapping_add(1)
 }
 
 // Writes the n ranges from base on.
@@ -55,32 +51,28 @@ fn rows(mem: &[u64], bs: &mut [u8], base: u64, n: usize)
     ensures { Rows mem.now bs.old base n bs.new }
 {
     let mut a = base;
-    let mut i = 0;
-    while i < n {
+    for i in 0..n {
         a = carry(mem, bs, a, i);
-        i += 1;
     }
 }
 
 // Writes the allocator that the block holds into the first bytes. Refused, in this order: "no state" for a block whose header is no
 // allocator's; "no room" for too few bytes. After a refusal no byte is changed, and no byte behind those that are written ever is.
-pub fn save(mem: &[u64], bs: &mut [u8]) -> Saved
+pub fn save(mem: &[u64], bs: &mut [u8]) -> Result<usize, SaveError>
     ensures { Saves mem.now bs.old result bs.new }
 {
-    let n = addresses::count(mem);
-    if n == 0 {
-        return Saved::NoState;
-    }
-    if 4096 < n {
-        return Saved::NoState;
-    }
+    let n = range_count(mem).ok_or(SaveError::NoState)?;
     if bs.len() < 64 + 16 * n {
-        return Saved::NoRoom;
+        return Err(SaveError::NoRoom);
     }
     let base = addresses::base(mem);
-    let end = addresses::end(mem);
-    let limit = table::limit(mem);
+    let numbers = Opened {
+        first: base,
+        second: addresses::end(mem),
+        third: table::limit(mem) as u64,
+        words: 2 * n,
+    };
     rows(mem, bs, base, n);
-    frame::seal(bs, KIND, base, end, limit as u64, 2 * n);
-    Saved::Bytes(64 + 16 * n)
+    frame::seal(bs, KIND, numbers);
+    Ok(64 + 16 * n)
 }

@@ -2,33 +2,26 @@
 --     unheld_more, unheld_up            one id more; how many there are grows
 --     listed_start, listed_step         after n ids the words say those among them that are free
 --     freed_same                        equal words say the same freed ids
---     told_held, told_free, noted_held, noted_free, measured, bounds_of, bounds_none, measures_ids, measures_none     how the steps end
+--     counted_held, counted_free, noted_free, measured, measures_some, not_measured     how the steps end
 --     written                           the ids and the frame around them are the state
-use Prim.Native.Nat.{ℕ, zero, suc, ◌+◌, ◌-◌, ◌*◌, ◌^◌, ◌≤◌, ◌<◌}
-use mathlib.Core.Path.{◌≡◌, refl, sym, ap, ◌∙◌, subst}
-use mathlib.Core.Bool.{Bool, true, false, cond}
-use mathlib.Core.Logic.{◌⊎◌, ⊎_elim, inl, inr}
-use mathlib.Core.List.{List}
-use native.Mathlib.Omega.{arith}
-use native.Mathlib.Numerals.{add-one}
-use lib.ListN.{length}
+use Rattle.std.proofs.Common.{ℕ, zero, suc, ◌+◌, ◌-◌, ◌*◌, ◌^◌, ◌≤◌, ◌<◌, ◌≡◌, refl, sym, ap, ◌∙◌, subst, Bool, true, false, cond, ◌⊎◌, ⊎_elim, inl, inr, List, length, Option, Some, Result, Ok, Err, IsErrAnd, arith, add-one}
+use Rattle.std.specs.Option.{ok_or}
 use Rattle.octets.specs.Octets.{word, Puts}
 use Rattle.octets.proofs.Words.{below_or_not, put_word}
 use Rattle.frame.specs.Frame.{Seals}
+use Rattle.frame.specs.declared.SaveError.{SaveError}
+use Rattle.frame.specs.declared.SaveError.TheVariants.{NoState}
 use Rattle.frame.proofs.FrameLaws.{frame_same}
+use Rattle.frame.proofs.Passed.{handed, missing}
 use Rattle.ids.specs.State.{State, Within}
 use Rattle.ids.specs.Held.{Holds}
-use Rattle.ids.specs.Contract.{Tells, Describes}
-use Rattle.ids.specs.declared.Interval.{Interval}
-use Rattle.ids.specs.declared.Interval.TheVariants as interval
+use Rattle.ids.specs.Contract.{Tells}
 use Rattle.ids.proofs.Tests.{is_either, false_true, not_true}
 use Rattle.ranges.specs.Align.{Decides}
 use Rattle.saved_ids.specs.Format.{kind, Freed, unheld, freed_of}
-use Rattle.saved_ids.specs.declared.Saved.TheVariants.{Bytes}
 use Rattle.saved_ids.specs.declared.Extent.{Extent}
-use Rattle.saved_ids.specs.declared.Extent.TheVariants as extent
-use Rattle.saved_ids.specs.Contract.{Saves, Of}
-use Rattle.saved_ids.specs.Steps.{Ones, Spans, Counts, Measured, Measures, Notes, upto, Lists}
+use Rattle.saved_ids.specs.Contract.{Saves}
+use Rattle.saved_ids.specs.Steps.{Spans, Counts, Measured, Measures, Notes, upto, Lists}
 
 -- ---- how many are not granted
 
@@ -135,7 +128,7 @@ listed_end s low n j k bs p q f =
 
 -- ---- the whole
 
-pub written : (m u v w : List ℕ) (low high next k : ℕ) → 64 + 8 * k ≤ length u → Measured m low high next k → Lists m u low (next - low) k v → Seals kind low high next k v w → Saves m u (Bytes (64 + 8 * k)) w
+pub written : (m u v w : List ℕ) (low high next k : ℕ) → 64 + 8 * k ≤ length u → Measured m low high next k → Lists m u low (next - low) k v → Seals kind low high next k v w → Saves m u (Ok (64 + 8 * k)) w
 unfolding Saves
 written m u v w low high next k l d r s = (
   s.long ∙ r.long,
@@ -158,27 +151,31 @@ written m u v w low high next k l d r s = (
 
 -- ---- one id
 
-pub told_held : (m : List ℕ) (id : ℕ) (b : Bool) → Tells m id b → b ≡ true → Ones m id 0
-told_held m id b t e = record { small = omega arith; right = λ s h w. sym (ap (λ (x : Bool). cond {A = ℕ} x 0 1) (subst (λ (x : Bool). Decides x (Within s id × (s.granted id ≡ true))) e (t s h)).1) }
+told_held : (m : List ℕ) (id : ℕ) (b : Bool) → Tells m id b → b ≡ true → (s : State) → Holds m s → s.granted id ≡ true
+told_held m id b t e s h = (subst (λ (x : Bool). Decides x (Within s id × (s.granted id ≡ true))) e (t s h)).1
 
-pub told_free : (m : List ℕ) (id : ℕ) (b : Bool) → Tells m id b → b ≡ false → Ones m id 1
-told_free m id b t e = record { small = omega arith; right = λ s h w. sym (ap (λ (x : Bool). cond {A = ℕ} x 0 1) (not_true (s.granted id) (λ g. subst (λ (x : Bool). Decides x (Within s id × (s.granted id ≡ true))) e (t s h) (w, g)))) }
+told_free : (m : List ℕ) (id : ℕ) (b : Bool) → Tells m id b → b ≡ false → (s : State) → Holds m s → Within s id → s.granted id ≡ false
+told_free m id b t e s h w = not_true (s.granted id) (λ g. subst (λ (x : Bool). Decides x (Within s id × (s.granted id ≡ true))) e (t s h) (w, g))
 
-pub noted_held : (m bs : List ℕ) (id j k o : ℕ) → Ones m id o → o ≡ 0 → Notes m bs id j k j bs
-noted_held m bs id j k o d z = record {
-  long = refl;
-  front = λ i l. refl;
-  behind = λ i l. refl;
-  held = λ s h w g. refl;
-  free = λ s h w g l. absurd (omega (arith, z, d.right s h w ∙ ap (λ (x : Bool). cond {A = ℕ} x 0 1) g));
-}
+-- k counts those of the first i ids from low on that are not granted
+abbrev pub Counted : List ℕ → ℕ → ℕ → ℕ → ℕ → Type 0
+Counted m low n i k = (k ≤ i) × ((s : State) → Holds m s → Spans s low n → k ≡ unheld s.granted low i)
 
-pub noted_free : (m bs bs' : List ℕ) (id j k o : ℕ) → Ones m id o → (o ≡ 0 → ⊥) → j < k → 64 + 8 * k ≤ length bs → Puts bs (7 + j) id bs' → Notes m bs id j k (j + 1) bs'
-noted_free m bs bs' id j k o d z l r p = record {
+pub counted_held : (m : List ℕ) (low n i k : ℕ) (b : Bool) → Tells m (low + i) b → b ≡ true → Counted m low n i k → Counted m low n (i + 1) k
+counted_held m low n i k b t e f = (omega (arith, f.0), λ s h p. omega (arith, f.1 s h p, unheld_more s.granted low i, ap (λ (x : Bool). cond {A = ℕ} x 0 1) (told_held m (low + i) b t e s h)))
+
+pub counted_free : (m : List ℕ) (low n i k : ℕ) (b : Bool) → Tells m (low + i) b → b ≡ false → i < n → Counted m low n i k → Counted m low n (i + 1) (k + 1)
+counted_free m low n i k b t e l f = (
+  omega (arith, f.0),
+  λ s h p. omega (arith, f.1 s h p, unheld_more s.granted low i, ap (λ (x : Bool). cond {A = ℕ} x 0 1) (told_free m (low + i) b t e s h (omega (arith, p.first), omega (arith, p.last)))),
+)
+
+pub noted_free : (m bs bs' : List ℕ) (id j k : ℕ) (b : Bool) → Tells m id b → b ≡ false → j < k → 64 + 8 * k ≤ length bs → Puts bs (7 + j) id bs' → Notes m bs id j k (j + 1) bs'
+noted_free m bs bs' id j k b t z l r p = record {
   long = p.long;
   front = λ i h. put_word bs bs' (7 + j) id p i (λ (e : i ≡ 7 + j). omega arith);
   behind = λ i h. p.other i (inr (omega arith));
-  held = λ s h w g. absurd (z (d.right s h w ∙ ap (λ (x : Bool). cond {A = ℕ} x 0 1) g));
+  held = λ s h w g. absurd (false_true (s.granted id) (told_free m id b t z s h w) g);
   free = λ s h w g q. (refl, p.says (omega arith));
 }
 
@@ -196,15 +193,11 @@ measured m low high next k a b c d f = record {
       (q.0, q.1, q.2, e ∙ ap (λ (y : ℕ). unheld s.granted y (next - y)) q.0 ∙ ap (λ (y : ℕ). unheld s.granted s.low (y - s.low)) q.2);
 }
 
--- what `bounds` answers
-pub bounds_of : (m : List ℕ) (r : Interval) (low high next : ℕ) → Describes m r → r ≡ interval.Of low high next → (s : State) → Holds m s → (low ≡ s.low) × (high ≡ s.high) × (next ≡ s.next)
-bounds_of m r low high next d e = subst (Describes m) e d
+pub measures_some : (m : List ℕ) (o : Option Extent) (e : Extent) → Measures m o → o ≡ Some e → Measured m e.ids.low e.ids.high e.ids.next e.freed
+measures_some m o e d q = subst (Measures m) q d
 
-pub bounds_none : (m : List ℕ) (r : Interval) → Describes m r → r ≡ interval.NoState → (s : State) → Holds m s → ⊥
-bounds_none m r d e = subst (Describes m) e d
-
-pub measures_ids : (m : List ℕ) (r : Extent) (low high next k : ℕ) → Measures m r → r ≡ extent.Ids low high next k → Measured m low high next k
-measures_ids m r low high next k d e = subst (Measures m) e d
-
-pub measures_none : (m : List ℕ) (r : Extent) → Measures m r → r ≡ extent.Missing → Of m (λ s. ⊥)
-measures_none m r d e = subst (Measures m) e d
+pub not_measured : (m bs : List ℕ) (o : Option Extent) (r : Result ℕ SaveError) (e : SaveError) → Measures m o → Err e ≡ ok_or o NoState → IsErrAnd r (λ y. y ≡ e) → Saves m bs r bs
+unfolding Saves
+not_measured m bs o r e d q h =
+    let w = missing o NoState e q in
+    handed (λ x. Saves m bs x bs) r e h (subst (λ (x : SaveError). Saves m bs (Err x) bs) (sym w.1) (refl, subst (Measures m) w.0 d))

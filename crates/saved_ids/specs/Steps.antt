@@ -1,17 +1,11 @@
 -- What the private steps of `save` do: m is the allocator's block, bs are the bytes before, bs' after.
-use Rattle.std.specs.Prelude.{ℕ, ◌+◌, ◌*◌, ◌^◌, ◌≤◌, ◌<◌, ◌≡◌, true, false, cond, List, length, get_or}
+use Rattle.std.specs.Prelude.{ℕ, ◌+◌, ◌*◌, ◌^◌, ◌≤◌, ◌<◌, ◌≡◌, true, false, List, length, get_or, Option, Some, None}
 use Rattle.octets.specs.Octets.{word}
 use Rattle.ids.specs.State.{State, Within}
 use Rattle.ids.specs.Held.{Holds}
 use Rattle.saved_ids.specs.Format.{Freed, unheld, freed_of}
 use Rattle.saved_ids.specs.Contract.{Of}
 use Rattle.saved_ids.specs.declared.Extent.{Extent}
-use Rattle.saved_ids.specs.declared.Extent.TheVariants as extent
-
--- 1 for an id that is not granted, 0 for one that is
-pub record Ones (m : List ℕ) (id r : ℕ) : Type 0 where
-  pub small : r ≤ 1
-  pub right : (s : State) → Holds m s → Within s id → r ≡ cond (s.granted id) 0 1
 
 -- a state whose interval has the n ids from low on
 pub record Spans (s : State) (low n : ℕ) : Type 0 where
@@ -31,9 +25,9 @@ pub record Measured (m : List ℕ) (low high next k : ℕ) : Type 0 where
   pub most : k + low ≤ next
   pub right : Of m (λ s. (low ≡ s.low) × (high ≡ s.high) × (next ≡ s.next) × (k ≡ freed_of s))
 
-abbrev pub Measures : List ℕ → Extent → Type 0
-Measures m (extent.Ids low high next k) = Measured m low high next k
-Measures m extent.Missing = Of m (λ s. ⊥)
+abbrev pub Measures : List ℕ → Option Extent → Type 0
+Measures m (Some e) = Measured m e.ids.low e.ids.high e.ids.next e.freed
+Measures m None = Of m (λ s. ⊥)
 
 -- the id is written as word 7 + j where it is not granted and j is below k, and r counts it; no other byte is changed
 pub record Notes (m bs : List ℕ) (id j k r : ℕ) (bs' : List ℕ) : Type 0 where

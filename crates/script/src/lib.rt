@@ -7,24 +7,23 @@ ghost use Rattle.script.specs.Grammar.{line_of};
 
 mod operations;
 
-use fields::Flaw;
+use fields::{Flaw, Wrong};
 use lines::Line;
 use vocabulary::Word;
 
 // Reads a line, without the byte that ends it.
-pub fn parse(s: &[u8]) -> Line
+#[tactic(auto, unfolding(crate::specs::Grammar::line_of))]
+pub fn parse(s: &[u8]) -> Result<Line, Wrong>
     ensures { result ≡ line_of s.now }
 {
     if s.len() > 1000 {
-        return Line::Wrong {
-            why: Flaw::LineTooLong,
-            at: 1000,
-        };
+        return Err(Flaw::LineTooLong.at(1000));
     }
     if text::no_word(s, 0) {
-        return Line::Blank;
+        return Ok(Line::Blank);
     }
     let next = text::end(s, 0);
+    // one `if` a word: each reads the rest in its own way, and a table of words and functions would say no more
     if vocabulary::next_is(s, 0, Word::Allocate) {
         return operations::allocate(s, next);
     }

@@ -14,7 +14,7 @@ module _ (m : List ℕ) (p n by : ℕ) (fits : n + by ≤ 64) (long : p + 128 �
   widened_none = record { len = refl; starts = λ k a b. absurd (omega arith); tags = λ k a b. absurd (omega arith); below = λ j a. refl; between = λ j a b. refl; above = λ j a. refl }
 
   -- a turn at range k
-  pub widened_more : (x : List ℕ) (k : ℕ) → k < n → Widened m x p n (k + 1) by → Widened m (set (set x (p + k + by) (get_or x (p + k) 0)) (p + 64 + k + by) (get_or (set x (p + k + by) (get_or x (p + k) 0)) (p + 64 + k) 0)) p n k by
+  widened_more : (x : List ℕ) (k : ℕ) → k < n → Widened m x p n (k + 1) by → Widened m (set (set x (p + k + by) (get_or x (p + k) 0)) (p + 64 + k + by) (get_or (set x (p + k + by) (get_or x (p + k) 0)) (p + 64 + k) 0)) p n k by
   widened_more x k h o =
       let l = o.len in
       let u : ℕ = get_or x (p + k) 0 in

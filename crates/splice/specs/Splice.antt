@@ -1,6 +1,6 @@
 -- What is left of lent words where ranges of one block are given up for others.
 use Rattle.std.specs.Prelude.{ℕ, ◌+◌, ◌-◌, ◌*◌, ◌≤◌, ◌<◌, ◌≡◌, Bool, true, false, cond, List, [], ◌∷◌, ◌++◌, ltb, length, get_or, take, drop}
-use Rattle.blocks.specs.Blocks.{count_of, blocks_of, limit_of, size_at, starts_at, tags_at, past_at, starts_of, tags_of, index, Ready}
+use Rattle.blocks.specs.Blocks.{count_of, limit_of, size_at, starts_at, tags_at, past_at, starts_of, tags_of, index, Ready}
 use Rattle.blocks.specs.Looks.{There}
 use Rattle.spread.specs.Spread.{Turned}
 

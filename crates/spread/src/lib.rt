@@ -1,7 +1,7 @@
 // The bounds of blocks, and spreading the ranges over the blocks anew. The table's other parts alone call this.
 #![tactic(auto)]
 
-ghost use Rattle.std.specs.Prelude.{◌≡◌, ◌+◌, ◌*◌, ◌<◌, ◌≤◌, length};
+ghost use Rattle.std.specs.Prelude.{◌≡◌, ◌+◌, ◌*◌, ◌<◌, ◌≤◌, ◌↔◌, ◌⊎◌, IsTrue, length};
 ghost use Rattle.blocks.specs.Blocks.{room_of, count_of, blocks_of, sizes, starts_of, tags_of, Within, Sound};
 ghost use Rattle.spread.specs.Spread.{Tightened, Trimmed, Copied, Apart, Gathered, Dealt, Laid, Turned, Nearly, Covered};
 
@@ -9,28 +9,11 @@ ghost use Rattle.spread.specs.Spread.{Tightened, Trimmed, Copied, Apart, Gathere
 fn reach(s: u64, last: u64, t: u64) -> u64
     ensures { t ≡ 0 → last ≤ s + result }
 {
-    if t != 0 {
-        return 0;
-    }
-    if last < s {
-        return 0;
-    }
-    last - s
-}
-
-fn larger(a: u64, b: u64) -> u64
-    ensures { (a ≤ result) × (b ≤ result) }
-{
-    if a < b { b } else { a }
-}
-
-fn less(a: u64) -> u64
-    ensures { a ≤ result + 1 }
-{
-    if 0 < a { a - 1 } else { a }
+    if t == 0 { last.saturating_sub(s) } else { 0 }
 }
 
 // A bound of the free ranges: from the first address of each to its last it is at most this far.
+// Starts and tags are two stretches of a block, and this alone asks for both.
 fn widest(starts: &[u64], tags: &[u64], last: u64) -> u64
     requires { length starts.now ≡ length tags.now }
     ensures { Within (last + 1) starts.now tags.now result }
@@ -41,15 +24,10 @@ fn widest(starts: &[u64], tags: &[u64], last: u64) -> u64
     }
     let m = n - 1;
     let mut w: u64 = 0;
-    let mut i: usize = 0;
-    while i < m {
-        let j = i + 1;
-        let g = places::likely(starts[i], starts[j], tags[i]);
-        w = larger(w, g);
-        i = j;
+    for i in 0..m {
+        w = w.max(places::likely(starts[i], starts[i + 1], tags[i]));
     }
-    let g = reach(starts[m], last, tags[m]);
-    larger(less(w), g)
+    w.saturating_sub(1).max(reach(starts[m], last, tags[m]))
 }
 
 // Makes the bound of block b as low as it may be.
@@ -69,22 +47,19 @@ fn trim(mem: &mut [u64], nb: usize, lo: usize, hi: usize)
     requires { Sound mem.old × (nb ≡ blocks_of mem.old) × (lo ≤ hi) × (hi ≤ nb) }
     ensures { Trimmed mem.old mem.new lo hi }
 {
-    let mut b = lo;
-    while b < hi {
+    for b in lo..hi {
         tighten(mem, nb, b);
-        b = b + 1;
     }
 }
 
-// Copies n words from `from` to `to`; the two parts have no word in common.
+// Copies n words from `from` to `to`; the two parts have no word in common. No `copy_within`: it tests which way to go and goes by either, and
+// where changes fall in one place, so that ranges are spread again and again, all together takes a twentieth longer.
 fn copy(mem: &mut [u64], from: usize, to: usize, n: usize)
     requires { Apart from to n × (from + n ≤ length mem.old) × (to + n ≤ length mem.old) }
     ensures { Copied mem.old mem.new from to n }
 {
-    let mut i: usize = 0;
-    while i < n {
+    for i in 0..n {
         mem[to + i] = mem[from + i];
-        i = i + 1;
     }
 }
 
@@ -94,13 +69,11 @@ fn gather(mem: &mut [u64], room: usize, nb: usize)
     ensures { Gathered mem.old mem.new room nb (count_of mem.old) }
 {
     let mut off: usize = 0;
-    let mut b: usize = 0;
-    while b < nb {
+    for b in 0..nb {
         let n = (mem[136 + b * 129] % 64) as usize;
         copy(mem, 137 + b * 129, 136 + room * 129 + off, n);
         copy(mem, 201 + b * 129, 136 + room * 161 + off, n);
-        off = off + n;
-        b = b + 1;
+        off += n;
     }
 }
 
@@ -111,12 +84,12 @@ fn share(left: usize) -> usize
     ensures { (0 < result) × (result ≤ left) × (result ≤ 32) × (left ≤ 32 → result ≡ left) × (result < 32 → left ≤ result + 32) }
 {
     if left <= 32 {
-        return left;
+        left
+    } else if left < 64 {
+        left / 2
+    } else {
+        32
     }
-    if left < 64 {
-        return left / 2;
-    }
-    32
 }
 
 // Copies n ranges from the room behind the blocks into the blocks.
@@ -126,13 +99,14 @@ fn scatter(mem: &mut [u64], room: usize, n: usize)
 {
     let mut off: usize = 0;
     let mut b: usize = 0;
+    // no `for`: how many blocks there are is known only when the last range is placed
     while off < n {
         let c = share(n - off);
         copy(mem, 136 + room * 129 + off, 137 + b * 129, c);
         copy(mem, 136 + room * 161 + off, 201 + b * 129, c);
         mem[136 + b * 129] = c as u64;
-        off = off + c;
-        b = b + 1;
+        off += c;
+        b += 1;
     }
     mem[4] = b as u64;
 }
@@ -143,10 +117,8 @@ fn total(mem: &[u64], nb: usize) -> usize
     ensures { result ≡ sizes 0 (blocks_of mem.now) mem.now }
 {
     let mut s: usize = 0;
-    let mut b: usize = 0;
-    while b < nb {
-        s = s + ((mem[136 + b * 129] % 64) as usize);
-        b = b + 1;
+    for b in 0..nb {
+        s += (mem[136 + b * 129] % 64) as usize;
     }
     s
 }
@@ -164,14 +136,8 @@ fn spread(mem: &mut [u64])
     requires { Sound mem.old }
     ensures { 0 < count_of mem.old → sizes 0 (blocks_of mem.old) mem.old ≡ count_of mem.old → Turned mem.old mem.new (starts_of mem.old) (tags_of mem.old) }
 {
-    let room = mem[0] as usize;
-    let n = mem[1] as usize;
-    let nb = mem[4] as usize;
-    if n == 0 {
-        return;
-    }
-    let all = total(mem, nb);
-    if all != n {
+    let (room, n, nb) = (mem[0] as usize, mem[1] as usize, mem[4] as usize);
+    if n == 0 || total(mem, nb) != n {
         return;
     }
     deal(mem, room, nb, n);
@@ -179,17 +145,11 @@ fn spread(mem: &mut [u64])
     trim(mem, k, 0, k);
 }
 
-// 0 where a block of n ranges is neither empty nor full, and one of k not empty.
-fn uneven(n: usize, k: usize) -> usize
-    ensures { (result ≡ 0 → 0 < n) × (result ≡ 0 → n ≤ 61) × (result ≡ 0 → 0 < k) }
+// Whether a block of n ranges is empty or full.
+fn uneven(n: usize) -> bool
+    ensures { IsTrue result ↔ (n ≡ 0) ⊎ (61 < n) }
 {
-    if n == 0 {
-        return 1;
-    }
-    if 61 < n {
-        return 1;
-    }
-    if k == 0 { 1 } else { 0 }
+    n == 0 || 61 < n
 }
 
 // After a change of block b, and of others before block hi: new bounds for the blocks from lo on and before hi, or all ranges spread anew,
@@ -198,14 +158,11 @@ pub fn finish(mem: &mut [u64], nb: usize, b: usize, lo: usize, hi: usize)
     requires { Sound mem.old × (nb ≡ blocks_of mem.old) × (lo ≤ b) × (b < hi) × (hi ≤ nb) }
     ensures { Nearly mem.old lo b hi → Turned mem.old mem.new (starts_of mem.old) (tags_of mem.old) }
 {
-    let n = blocks::size_of(mem, b);
-    let k = blocks::size_of(mem, hi - 1);
-    let odd = uneven(n, k);
-    if odd != 0 {
+    if uneven(blocks::size_of(mem, b)) || blocks::size_of(mem, hi - 1) == 0 {
         spread(mem);
-        return;
+    } else {
+        trim(mem, nb, lo, hi);
     }
-    trim(mem, nb, lo, hi);
 }
 
 // After a change of block b alone: its bound becomes w where that is more, with no look at its ranges; or all ranges are spread anew, where
@@ -214,11 +171,9 @@ pub fn raise(mem: &mut [u64], b: usize, w: u64)
     requires { Sound mem.old × (b < blocks_of mem.old) }
     ensures { Nearly mem.old b b (b + 1) → Covered mem.old b w → Turned mem.old mem.new (starts_of mem.old) (tags_of mem.old) }
 {
-    let n = blocks::size_of(mem, b);
-    let odd = uneven(n, n);
-    if odd != 0 {
+    if uneven(blocks::size_of(mem, b)) {
         spread(mem);
-        return;
+    } else {
+        mem[8 + b] = mem[8 + b].max(w);
     }
-    mem[8 + b] = larger(mem[8 + b], w);
 }

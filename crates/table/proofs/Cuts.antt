@@ -1,5 +1,5 @@
 -- What `cut` answers, from where the address was found and what the block's change left. Assumes nothing.
-use Prim.Native.Nat.{ℕ, ◌+◌, ◌*◌, ◌≤◌, ◌<◌}
+use Prim.Native.Nat.{ℕ, ◌+◌, ◌≤◌, ◌<◌}
 use mathlib.Core.Path.{◌≡◌, refl, sym, ap, subst, ◌∙◌}
 use mathlib.Core.Bool.{Bool, true, false, cond}
 use mathlib.Core.List.{List, [], ◌∷◌, ◌++◌}
@@ -7,12 +7,9 @@ use native.Mathlib.Omega.{arith}
 use lib.Dec.{ltb}
 use lib.ListN.{length, get_or, take, drop, length-append, length-take, length-drop}
 use Rattle.cells.specs.Cells.{Located}
-use Rattle.blocks.specs.Blocks.{count_of, blocks_of, limit_of, top_of, size_at, starts_at, tags_at, past_at, starts_of, tags_of, index, Sound, Settled, Ready}
+use Rattle.blocks.specs.Blocks.{count_of, blocks_of, top_of, size_at, starts_at, tags_at, starts_of, tags_of, index, Sound, Settled, Ready}
+use Rattle.std.proofs.Common.{Option, Some, None, Result, Ok, Err, ok_or}
 use Rattle.blocks.specs.Looks.{Headed, There, Finds}
-use Rattle.blocks.specs.declared.Head.{Head}
-use Rattle.blocks.specs.declared.Head.TheVariants.{Good, Bad}
-use Rattle.blocks.specs.declared.Where.{Where}
-use Rattle.blocks.specs.declared.Where.TheVariants.{In, Before}
 use Rattle.blocks.proofs.Flat.{flat_start, flat_tag, flat_next}
 use Rattle.splice.specs.Splice.{splice, Window, new_starts, new_tags, start_in, past_in, Cut}
 use Rattle.table.specs.Row.{Tile, past, Covers, pieces, cut}
@@ -20,29 +17,33 @@ use Rattle.table.specs.Tiles.{Open}
 use Rattle.table.specs.Table.{Proper, with_row}
 use Rattle.table.specs.Layout.{row_of, row_in, Holds}
 use Rattle.table.specs.Contract.{Cuts}
-use Rattle.table.specs.declared.Change.TheVariants.{Done, Absent, Full, NoTable}
+use Rattle.table.specs.declared.ChangeError.TheVariants.{Absent, Full, NoTable}
 use Rattle.table.proofs.Rows.{row_length}
 use Rattle.table.proofs.Lying.{starts_length, as_many, count_row, row_splice}
 use Rattle.table.proofs.Moves.{cut_at, cut_covers}
 use Rattle.table.proofs.Standing.{open_above, open_in, open_only}
 use Rattle.table.proofs.Holding.{own, of_own, of_none, tile_in, split_in, past_in_lem, covers_split, located_next, first_in, turned_holds}
 
+-- a `?` after `ok_or e` hands e on
+pub passed_up : {A B E : Type 0} {o : Option A} {r : Result B E} {x e : E} → Err x ≡ ok_or o e → o ≡ None → (y : E) × (r ≡ Err y) × (y ≡ x) → r ≡ Err e
+passed_up {x = x} {e = e} v n p = let w : x ≡ e = cc (v, n) in p.1 ∙ ap Err (p.2 ∙ w)
+
 -- what `header` and `find` answered
-pub good_head : (m : List ℕ) {r : Head} {n : ℕ} → Headed m r → r ≡ Good n → Sound m × (n ≡ blocks_of m)
+pub good_head : (m : List ℕ) {r : Option ℕ} {n : ℕ} → Headed m r → r ≡ Some n → Sound m × (n ≡ blocks_of m)
 unfolding Headed
-good_head m {n = n} h e = let u : Headed m (Good n) = rw e at h in u
+good_head m {n = n} h e = let u : Headed m (Some n) = rw e at h in u
 
-pub bad_head : (m : List ℕ) {r : Head} → Headed m r → r ≡ Bad → Sound m → ⊥
+pub bad_head : (m : List ℕ) {r : Option ℕ} → Headed m r → r ≡ None → Sound m → ⊥
 unfolding Headed
-bad_head m h e = let u : Headed m Bad = rw e at h in u
+bad_head m h e = let u : Headed m None = rw e at h in u
 
-pub found_in : (m : List ℕ) (a b i : ℕ) {r : Where} → Finds m a r → r ≡ In b i → There m b i × (get_or (starts_at b m) i 0 ≤ a) × (Settled m → Located (starts_of m) a (index b i m))
+pub found_in : (m : List ℕ) (a b i : ℕ) {r : Option (ℕ × ℕ)} → Finds m a r → r ≡ Some (b, i) → There m b i × (get_or (starts_at b m) i 0 ≤ a) × (Settled m → Located (starts_of m) a (index b i m))
 unfolding Finds
-found_in m a b i f e = let u : Finds m a (In b i) = rw e at f in u
+found_in m a b i f e = let u : Finds m a (Some (b, i)) = rw e at f in u
 
-pub found_before : (m : List ℕ) (a : ℕ) {r : Where} → Finds m a r → r ≡ Before → Settled m → Proper (own m) → a < get_or m 2 0
+pub found_before : (m : List ℕ) (a : ℕ) {r : Option (ℕ × ℕ)} → Finds m a r → r ≡ None → Settled m → Proper (own m) → a < get_or m 2 0
 unfolding Finds
-found_before m a f e s p = let u : Finds m a Before = rw e at f in omega (arith, u s, first_in m s p)
+found_before m a f e s p = let u : Finds m a None = rw e at f in omega (arith, u s, first_in m s p)
 
 -- the pieces of a range, as a row
 pieces_row : (s to a size tag : ℕ) → row_of (new_starts s to a size) (new_tags s to a size tag) ≡ pieces to a size tag (record { start = s; tag = 0 })
@@ -69,14 +70,14 @@ module _ (m : List ℕ) (a size tag : ℕ) (pos : 0 < size) (named : 0 < tag) wh
   abbrev top : ℕ
   top = top_of m
 
-  absent : (Ready m → Proper (own m) → Open top a size (row_in m) → ⊥) → Cuts m a size tag Absent m
+  absent : (Ready m → Proper (own m) → Open top a size (row_in m) → ⊥) → Cuts m a size tag (Err Absent) m
   unfolding Cuts
   absent f = (refl, (pos, named), of_own m (λ t. Open t.top a size t.row → ⊥) f)
 
-  pub cut_before : {r : Where} → Finds m a r → r ≡ Before → Cuts m a size tag Absent m
+  pub cut_before : {r : Option (ℕ × ℕ)} → Finds m a r → r ≡ None → Cuts m a size tag (Err Absent) m
   cut_before f e = absent (λ r p. open_above top a size (get_or m 2 0) (row_in m) p.covers (found_before m a f e r.settled p))
 
-  pub cut_unsettled : (b : ℕ) → b < blocks_of m → 61 < size_at b m → Cuts m a size tag NoTable m
+  pub cut_unsettled : (b : ℕ) → b < blocks_of m → 61 < size_at b m → Cuts m a size tag (Err NoTable) m
   unfolding Cuts
   cut_unsettled b h l = (refl, (pos, named), of_own m (λ t. ⊥) (λ r p. omega (arith, r.settled.spare b h)))
 
@@ -93,10 +94,10 @@ module _ (m : List ℕ) (a size tag : ℕ) (pos : 0 < size) (named : 0 < tag) wh
         let w = open_only top (tile_in m u k (inside u)) (drop (k + 1) (row_in m)) a l.from (located_next m u k (inside u) a l) size pos (take k (row_in m)) (get_or m 2 0) (covers_split m u k (inside u) p) (subst (Open top a size) (split_in m u k (inside u)) o) in
         (sym (flat_tag m u.sound b there.block i 0 there.tile) ∙ w.0, rw (flat_next m u b there.block r.risen i there.tile) at (rw (past_in_lem m u k (inside u)) at w.1))
 
-    pub cut_used : (get_or (tags_at b m) i 0 ≡ 0 → ⊥) → Cuts m a size tag Absent m
+    pub cut_used : (get_or (tags_at b m) i 0 ≡ 0 → ⊥) → Cuts m a size tag (Err Absent) m
     cut_used n = absent (λ r p o. n (here r p o).0)
 
-    pub cut_short : past_in m b i < a + size → Cuts m a size tag Absent m
+    pub cut_short : past_in m b i < a + size → Cuts m a size tag (Err Absent) m
     cut_short s = absent (λ r p o. omega (arith, (here r p o).1))
 
   pub cut_window : (b i : ℕ) → There m b i → get_or (starts_at b m) i 0 ≤ a → get_or (tags_at b m) i 0 ≡ 0 → a + size ≤ past_in m b i → Window m b i a size
@@ -157,7 +158,7 @@ module _ (m : List ℕ) (a size tag : ℕ) (pos : 0 < size) (named : 0 < tag) wh
         let e : length (pieces (past_in m b i) a size tag (record { start = start_in m b i; tag = 0 })) ≡ length (new_starts (start_in m b i) (past_in m b i) a size) = ap length (sym (pieces_row (start_in m b i) (past_in m b i) a size tag)) ∙ row_length (new_starts (start_in m b i) (past_in m b i) a size) (new_tags (start_in m b i) (past_in m b i) a size tag) (as_many_new (start_in m b i) (past_in m b i) a size tag) in
         simp (length-append, length-take, length-drop) (omega arith)
 
-    pub cut_done : (m' : List ℕ) {r : Bool} → Cut m m' b i a size tag r → r ≡ true → Cuts m a size tag Done m'
+    pub cut_done : (m' : List ℕ) {r : Bool} → Cut m m' b i a size tag r → r ≡ true → Cuts m a size tag (Ok tt) m'
     unfolding Cuts Cut
     cut_done m' c e =
         let u : Cut m m' b i a size tag true = rw e at c in (
@@ -165,12 +166,12 @@ module _ (m : List ℕ) (a size tag : ℕ) (pos : 0 < size) (named : 0 < tag) wh
           of_own m (λ t. Open t.top a size t.row × Holds m' (with_row t (cut t.top a size tag t.row))) (λ r p. (is_open r, turned_holds m m' _ _ (cut top a size tag (row_in m)) p (u r).0 (new_row r.settled ∙ sym (cut_carved r p)) (covers_cut r p))),
         )
 
-    pub cut_full : (m' : List ℕ) {r : Bool} → Cut m m' b i a size tag r → r ≡ false → Cuts m a size tag Full m'
+    pub cut_full : (m' : List ℕ) {r : Bool} → Cut m m' b i a size tag r → r ≡ false → Cuts m a size tag (Err Full) m'
     unfolding Cuts Cut
     cut_full m' c e =
         let u : Cut m m' b i a size tag false = rw e at c in
         (u.0, (pos, named), of_own m (λ t. Open t.top a size t.row × (t.limit < length (cut t.top a size tag t.row))) (λ r p. (is_open r, rw (cut_carved r p) (omega (arith, u.1, many_new r.settled)))))
 
-pub cut_no_table : (m : List ℕ) (a size tag : ℕ) → 0 < size → 0 < tag → {r : Head} → Headed m r → r ≡ Bad → Cuts m a size tag NoTable m
+pub cut_no_table : (m : List ℕ) (a size tag : ℕ) → 0 < size → 0 < tag → {r : Option ℕ} → Headed m r → r ≡ None → Cuts m a size tag (Err NoTable) m
 unfolding Cuts
 cut_no_table m a size tag pos named h e = (refl, (pos, named), of_none m (bad_head m h e))

@@ -1,17 +1,16 @@
 -- What a block holds: one table, which is proper; and what follows from the header and the row in the block. Assumes nothing.
-use Prim.Native.Nat.{ℕ, ◌+◌, ◌≤◌, ◌<◌}
-use mathlib.Core.Path.{◌≡◌, refl, sym, ap, subst, ◌∙◌}
-use mathlib.Core.List.{List, [], ◌∷◌, ◌++◌}
+use Prim.Native.Nat.{ℕ, ◌+◌, ◌<◌}
+use mathlib.Core.Path.{◌≡◌, sym, ap, subst, ◌∙◌}
+use mathlib.Core.List.{List, ◌∷◌, ◌++◌}
 use native.Mathlib.Omega.{arith}
 use native.Mathlib.Numerals.{add-one}
-use native.Mathlib.Decide.{dec_lt}
 use lib.ListN.{length, get_or, take, drop, length-drop}
 use lib.Seq.{split_at, get_or-drop}
 use Rattle.cells.specs.Cells.{Located}
 use Rattle.places.proofs.Searches.{get_d_any}
 use Rattle.table.specs.Row.{Tile, past, Covers}
 use Rattle.table.specs.Table.{Table, Proper, with_row}
-use Rattle.blocks.specs.Blocks.{count_of, blocks_of, limit_of, top_of, size_at, starts_of, tags_of, index, Sound, Settled, Risen, Ready}
+use Rattle.blocks.specs.Blocks.{count_of, limit_of, top_of, size_at, starts_of, tags_of, index, Sound, Settled, Risen, Ready}
 use Rattle.blocks.proofs.Parts.{sizes_snoc}
 use Rattle.blocks.proofs.Flat.{flat_first, flat_within, all_starts}
 use Rattle.spread.specs.Spread.{Turned}

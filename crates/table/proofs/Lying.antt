@@ -1,13 +1,12 @@
 -- The row in lent words, where they are a table's. Assumes nothing.
 use Prim.Native.Nat.{ℕ, ◌+◌, ◌≤◌, ◌<◌}
-use mathlib.Core.Path.{◌≡◌, refl, sym, ap, ◌∙◌}
-use mathlib.Core.List.{List, [], ◌∷◌, ◌++◌}
+use mathlib.Core.Path.{◌≡◌, sym, ◌∙◌}
+use mathlib.Core.List.{List, ◌++◌}
 use native.Mathlib.Omega.{arith}
 use lib.ListN.{length, get_or, take, drop, length-take, get_or-eq_default}
-use Rattle.blocks.specs.Blocks.{count_of, blocks_of, starts_of, tags_of, index, Settled}
+use Rattle.blocks.specs.Blocks.{count_of, starts_of, tags_of, index, Settled}
 use Rattle.blocks.proofs.Flat.{all_starts, all_tags, flat_within}
 use Rattle.splice.specs.Splice.{splice}
-use Rattle.table.specs.Row.{Tile}
 use Rattle.table.specs.Layout.{row_of, row_in}
 use Rattle.table.proofs.Rows.{row_append, row_take, row_drop, row_length}
 

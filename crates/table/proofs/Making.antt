@@ -1,15 +1,16 @@
 -- How many words a limit takes, and that what `make` writes is a table of one free range. Assumes nothing.
-use Prim.Native.Nat.{ℕ, suc, ◌+◌, ◌-◌, ◌*◌, ◌/◌, ◌%◌, ◌^◌, ◌≤◌, ◌<◌}
+use Prim.Native.Nat.{ℕ, ◌+◌, ◌-◌, ◌*◌, ◌/◌, ◌%◌, ◌^◌, ◌≤◌, ◌<◌}
 use mathlib.Core.Path.{◌≡◌, refl, sym, ap, ◌∙◌}
 use mathlib.Core.List.{List, [], ◌∷◌, ◌++◌}
 use native.Mathlib.Omega.{arith}
+use Rattle.std.proofs.Common.{min}
 use native.Mathlib.Decide.{ℕ_discrete, dec_le}
 use borrow.Author.Tests.{lt-leb, le-leb, eq-eqb, ne_eqb}
 use lib.ListN.{length, get_or, take, drop, set, length-set}
 use lib.Seq.{get_or-set_other, get_or-set_same, drop-cons}
-use Rattle.table.specs.Row.{Tile, Covers}
+use Rattle.table.specs.Row.{Covers}
 use Rattle.table.specs.Table.{fresh}
-use Rattle.blocks.specs.Blocks.{mark, room_of, count_of, blocks_of, limit_of, size_at, bound_at, starts_at, tags_at, last_at, past_at, sizes, cells, starts_of, tags_of, Within, Sound, Settled, Bounded}
+use Rattle.blocks.specs.Blocks.{mark, blocks_of, size_at, bound_at, starts_at, past_at, sizes, cells, starts_of, tags_of, Within, Sound, Settled, Bounded}
 use Rattle.blocks.proofs.Parts.{start_at, start_past, starts_length, last_end}
 use Rattle.table.specs.Layout.{words_for, row_of, row_in, Holds}
 
@@ -26,12 +27,23 @@ pub words_for_lem : (l : ℕ) → 0 < l → l ≤ 4096 → 136 + (l + 31) / 32 *
 unfolding words_for
 words_for_lem l p h = rw (ne_eqb l 0 (λ e. omega arith), le-leb l 4096 h)
 
+-- the code's blocks for a limit
+pub ceil : (l n : ℕ) → n ≡ l / 32 + min 1 (l % 32) → n ≡ (l + 31) / 32
+ceil l n e = elim (ℕ_discrete (l % 32) 0) [
+  | yes z ↦ let k : min 1 (l % 32) ≡ 0 = rw z refl in omega (arith, k)
+  | no z ↦ let k : min 1 (l % 32) ≡ 1 = grind arith in omega (arith, k)
+]
+
 -- so there are words just for the limits from 1 to 4,096
 pub words_none : (l : ℕ) → words_for l ≡ 0 → 0 < l → l ≤ 4096 → ⊥
 words_none l e p h = omega (arith, words_for_lem l p h)
 
 pub words_some : (l : ℕ) → (words_for l ≡ 0 → ⊥) → (0 < l) × (l ≤ 4096)
 words_some l n = elim (ℕ_discrete l 0) [ yes e ↦ absurd (n (sym (words_zero l e))) | no z ↦ elim (dec_le l 4096) [ yes h ↦ (omega arith, h) | no h ↦ absurd (n (sym (words_many l (omega arith)))) ] ]
+
+-- which are more than the words that `make` writes
+pub words_long : (l n : ℕ) → n ≡ words_for l → (n ≡ 0 → ⊥) → (329 ≤ n) × (l ≤ 4096)
+words_long l n e z = let k = words_some l (λ f. z (e ∙ f)) in (omega (arith, words_for_lem l k.0 k.1), k.1)
 
 -- a stretch of one cell
 one_cell : (m : List ℕ) (k : ℕ) → k < length m → take 1 (drop k m) ≡ get_or m k 0 ∷ []

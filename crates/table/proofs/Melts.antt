@@ -1,16 +1,13 @@
 -- What `melt` answers, from where the address was found and what was left. Assumes nothing.
-use Prim.Native.Nat.{ℕ, ◌+◌, ◌≤◌, ◌<◌}
+use Prim.Native.Nat.{ℕ, ◌+◌, ◌<◌}
 use mathlib.Core.Path.{◌≡◌, refl, sym, ap, subst, ◌∙◌}
-use mathlib.Core.List.{List, ◌∷◌, ◌++◌}
+use mathlib.Core.List.{List}
 use native.Mathlib.Omega.{arith}
-use lib.ListN.{length, get_or, take, drop}
+use lib.ListN.{get_or, take, drop}
 use Rattle.cells.specs.Cells.{Located}
 use Rattle.blocks.specs.Blocks.{count_of, top_of, starts_at, tags_at, starts_of, tags_of, index, Settled, Ready}
+use Rattle.std.proofs.Common.{Option, None, Ok, Err}
 use Rattle.blocks.specs.Looks.{Headed, There, Finds}
-use Rattle.blocks.specs.declared.Head.{Head}
-use Rattle.blocks.specs.declared.Head.TheVariants.{Bad}
-use Rattle.blocks.specs.declared.Where.{Where}
-use Rattle.blocks.specs.declared.Where.TheVariants.{Before}
 use Rattle.blocks.proofs.Flat.{flat_start, flat_tag}
 use Rattle.melting.specs.Melting.{Melted}
 use Rattle.table.specs.Row.{Tile, Covers, melt, unfree}
@@ -19,7 +16,7 @@ use Rattle.table.specs.Table.{Proper, with_row}
 use Rattle.table.specs.Layout.{row_in, Holds}
 use Rattle.table.specs.Contract.{Melts}
 use Rattle.table.specs.Steps.{glue}
-use Rattle.table.specs.declared.Change.TheVariants.{Done, Absent, NoTable}
+use Rattle.table.specs.declared.ChangeError.TheVariants.{Absent, NoTable}
 use Rattle.table.proofs.Lying.{starts_length}
 use Rattle.table.proofs.Moves.{melt_glue, melt_covers}
 use Rattle.table.proofs.Standing.{granted_above, granted_in, granted_only}
@@ -31,11 +28,11 @@ module _ (m : List ℕ) (s : ℕ) where
   abbrev top : ℕ
   top = top_of m
 
-  absent : (Ready m → Proper (own m) → Granted s (row_in m) → ⊥) → Melts m s Absent m
+  absent : (Ready m → Proper (own m) → Granted s (row_in m) → ⊥) → Melts m s (Err Absent) m
   unfolding Melts
   absent f = (refl, of_own m (λ t. Granted s t.row → ⊥) f)
 
-  pub melt_below : {r : Where} → Finds m s r → r ≡ Before → Melts m s Absent m
+  pub melt_below : {r : Option (ℕ × ℕ)} → Finds m s r → r ≡ None → Melts m s (Err Absent) m
   melt_below f e = absent (λ r p. granted_above top s (get_or m 2 0) (row_in m) p.covers (found_before m s f e r.settled p))
 
   module _ (b i : ℕ) (there : There m b i) (located : Settled m → Located (starts_of m) s (index b i m)) where
@@ -58,10 +55,10 @@ module _ (m : List ℕ) (s : ℕ) where
     here : (u : Settled m) → Proper (own m) → Granted s (row_in m) → (get_or (starts_of m) k 0 ≡ s) × (get_or (tags_of m) k 0 ≡ 0 → ⊥)
     here u p g = granted_only top (tile u) (drop (k + 1) (row_in m)) s (located u).from (located_next m u k (inside u) s (located u)) (take k (row_in m)) (get_or m 2 0) (covers_split m u k (inside u) p) (subst (Granted s) (split_in m u k (inside u)) g)
 
-    pub melt_between : (get_or (starts_at b m) i 0 ≡ s → ⊥) → Melts m s Absent m
+    pub melt_between : (get_or (starts_at b m) i 0 ≡ s → ⊥) → Melts m s (Err Absent) m
     melt_between n = absent (λ r p g. n (sym (start r.settled) ∙ (here r.settled p g).0))
 
-    pub melt_free : get_or (tags_at b m) i 0 ≡ 0 → Melts m s Absent m
+    pub melt_free : get_or (tags_at b m) i 0 ≡ 0 → Melts m s (Err Absent) m
     melt_free z = absent (λ r p g. (here r.settled p g).1 (tag r.settled ∙ z))
 
     abbrev returned : List Tile
@@ -76,7 +73,7 @@ module _ (m : List ℕ) (s : ℕ) where
     covers_returned : (u : Settled m) → Proper (own m) → Covers (get_or m 2 0) top returned
     covers_returned u p = melt_covers top (tile u) (drop (k + 1) (row_in m)) (take k (row_in m)) (get_or m 2 0) (covers_split m u k (inside u) p)
 
-    pub melt_done : (m' : List ℕ) → get_or (starts_at b m) i 0 ≡ s → (get_or (tags_at b m) i 0 ≡ 0 → ⊥) → (Ready m → Melted m m' k) → Melts m s Done m'
+    pub melt_done : (m' : List ℕ) → get_or (starts_at b m) i 0 ≡ s → (get_or (tags_at b m) i 0 ≡ 0 → ⊥) → (Ready m → Melted m m' k) → Melts m s (Ok tt) m'
     unfolding Melts
     melt_done m' e n f =
         of_own m (λ t. Granted s t.row × Holds m' (with_row t (melt s t.row)))
@@ -88,6 +85,6 @@ module _ (m : List ℕ) (s : ℕ) where
           turned_holds m m' _ _ (melt s (row_in m)) p w.turned (melt_row m u k (inside u) w.after w.before w.told_after w.told_before ∙ sym (melt_split u at p)) (subst (Covers (get_or m 2 0) top) (sym (melt_split u at p)) (covers_returned u p)),
         ))
 
-pub melt_no_table : (m : List ℕ) (s : ℕ) {r : Head} → Headed m r → r ≡ Bad → Melts m s NoTable m
+pub melt_no_table : (m : List ℕ) (s : ℕ) {r : Option ℕ} → Headed m r → r ≡ None → Melts m s (Err NoTable) m
 unfolding Melts
 melt_no_table m s h e = (refl, of_none m (bad_head m h e))

@@ -10,7 +10,7 @@ use lib.Dec.{eqb, ltb}
 use lib.ListN.{drop}
 use Rattle.table.specs.Row.{Tile, past, Covers, pieces, cut, unmark, unfree, melted, melt}
 use Rattle.table.specs.Steps.{glue}
-use Rattle.table.proofs.Order.{first_start, covers_below, covers_from, start_ge}
+use Rattle.table.proofs.Order.{first_start, covers_from, start_ge}
 
 -- ---- another tile in the place of one, with the same start
 

@@ -2,7 +2,7 @@
 use Prim.Native.Nat.{ℕ, zero, suc, ◌+◌, ◌-◌, ◌≤◌, ◌<◌}
 use mathlib.Core.Path.{◌≡◌, refl, sym, ap, ◌∙◌}
 use mathlib.Core.List.{List, [], ◌∷◌}
-use mathlib.Core.Bool.{Bool, true, false, cond}
+use mathlib.Core.Bool.{cond}
 use mathlib.Core.Option.{Option, none, some}
 use native.Mathlib.Numerals.{add-one}
 use native.Mathlib.Decide.{ℕ_discrete, dec_le}
@@ -11,7 +11,7 @@ use borrow.Author.Tests.{lt-leb, le-leb, eq-eqb, ne_eqb}
 use lib.ListN.{length, get_or, drop, drop_of_length-le}
 use lib.Dec.{leb, eqb}
 use Rattle.places.specs.Places.{Fits, Lowest, Highest, past_at, Room, LowestIn, HighestIn}
-use Rattle.table.specs.Row.{Tile, lowest, highest, highest_in, or, at_least}
+use Rattle.table.specs.Row.{lowest, highest, highest_in, or, at_least}
 use Rattle.table.specs.Multiples.{up, down, below}
 use Rattle.table.specs.Layout.{row_of}
 use Rattle.table.proofs.Rows.{past_row}

@@ -3,119 +3,84 @@
 #![tactic(auto)]
 
 use std::io;
-use table::{Begun, Change, Place, Stands};
+use table::{ChangeError, MakeError, PlaceError};
 
 // The ranges of a table in order: first and last address, and the tag.
 fn row(rt: &impl Print, mem: &[u64]) -> io::Result<()> {
-    let n = table::count(mem);
     let last = table::last(mem);
     let mut a = table::base(mem);
-    let mut k: usize = 0;
-    while k < n {
-        let s = table::at(mem, a);
-        let Stands::In { start, end, tag } = s else {
+    for _ in 0..table::count(mem) {
+        let Ok(s) = table::at(mem, a) else {
             return Ok(());
         };
-        say::text(rt, b"    ")?;
-        say::hex(rt, start)?;
-        say::text(rt, b"..")?;
-        say::hex(rt, end)?;
-        if tag == 0 {
-            say::text(rt, b" free\n")?;
-        } else {
-            say::text(rt, b" granted\n")?;
-        }
-        if last <= end {
+        let state = if s.tag == 0 { "free" } else { "granted" };
+        println!(rt; "    {:#x}..{:#x} {state}", s.start, s.end)?;
+        if last <= s.end {
             return Ok(());
         }
-        a = end + 1;
-        k = k + 1;
+        a = s.end + 1;
     }
     Ok(())
 }
 
-fn begun(rt: &impl Print, b: Begun) -> io::Result<()> {
-    match b {
-        Begun::Done => say::text(rt, b"made\n"),
-        Begun::Unfit => say::text(rt, b"unfit\n"),
-        Begun::Short => say::text(rt, b"short\n"),
-    }
-}
-
-fn place(rt: &impl Print, p: Place) -> io::Result<()> {
+fn place(rt: &impl Print, p: Result<u64, PlaceError>) -> io::Result<()> {
     match p {
-        Place::At(a) => {
-            say::text(rt, b"at ")?;
-            say::hex(rt, a)?;
-            say::text(rt, b"\n")
-        }
-        Place::Nowhere => say::text(rt, b"nowhere\n"),
-        Place::Unfit => say::text(rt, b"unfit\n"),
-        Place::NoTable => say::text(rt, b"no table\n"),
+        Ok(a) => println!(rt; "at {a:#x}"),
+        Err(PlaceError::Nowhere) => println!(rt; "nowhere"),
+        Err(PlaceError::Unfit) => println!(rt; "unfit"),
+        Err(PlaceError::NoTable) => println!(rt; "no table"),
     }
 }
 
-fn change(rt: &impl Print, c: Change) -> io::Result<()> {
+fn changed(c: Result<(), ChangeError>) -> &'static str {
     match c {
-        Change::Done => say::text(rt, b"done\n"),
-        Change::Absent => say::text(rt, b"absent\n"),
-        Change::Full => say::text(rt, b"full\n"),
-        Change::Unfit => say::text(rt, b"unfit\n"),
-        Change::NoTable => say::text(rt, b"no table\n"),
+        Ok(()) => "done",
+        Err(ChangeError::Absent) => "absent",
+        Err(ChangeError::Full) => "full",
+        Err(ChangeError::Unfit) => "unfit",
+        Err(ChangeError::NoTable) => "no table",
+    }
+}
+
+fn made(m: Result<(), MakeError>) -> &'static str {
+    match m {
+        Ok(()) => "made",
+        Err(MakeError::Unfit) => "unfit",
+        Err(MakeError::Short) => "short",
     }
 }
 
 fn lowest(rt: &impl Print, mem: &[u64], size: u64, align: u64) -> io::Result<()> {
-    say::text(rt, b"lowest ")?;
-    say::hex(rt, size)?;
-    say::text(rt, b", alignment ")?;
-    say::hex(rt, align)?;
-    say::text(rt, b": ")?;
+    print!(rt; "lowest {size:#x}, alignment {align:#x}: ")?;
     place(rt, table::lowest(mem, size, align))
 }
 
 fn highest(rt: &impl Print, mem: &[u64], size: u64, align: u64) -> io::Result<()> {
-    say::text(rt, b"highest ")?;
-    say::hex(rt, size)?;
-    say::text(rt, b", alignment ")?;
-    say::hex(rt, align)?;
-    say::text(rt, b": ")?;
+    print!(rt; "highest {size:#x}, alignment {align:#x}: ")?;
     place(rt, table::highest(mem, size, align))
 }
 
 fn cut(rt: &impl Print, mem: &mut [u64], a: u64, size: u64) -> io::Result<()> {
-    say::text(rt, b"cut ")?;
-    say::hex(rt, size)?;
-    say::text(rt, b" at ")?;
-    say::hex(rt, a)?;
-    say::text(rt, b": ")?;
-    change(rt, table::cut(mem, a, size, 1))?;
+    let done = table::cut(mem, a, size, 1);
+    println!(rt; "cut {size:#x} at {a:#x}: {}", changed(done))?;
     row(rt, mem)
 }
 
 fn melt(rt: &impl Print, mem: &mut [u64], s: u64) -> io::Result<()> {
-    say::text(rt, b"melt ")?;
-    say::hex(rt, s)?;
-    say::text(rt, b": ")?;
-    change(rt, table::melt(mem, s))?;
+    let done = table::melt(mem, s);
+    println!(rt; "melt {s:#x}: {}", changed(done))?;
     row(rt, mem)
 }
 
 fn make(rt: &impl Print, mem: &mut [u64], base: u64, last: u64, limit: usize) -> io::Result<()> {
-    say::text(rt, b"make ")?;
-    say::hex(rt, base)?;
-    say::text(rt, b"..")?;
-    say::hex(rt, last)?;
-    say::text(rt, b": ")?;
-    begun(rt, table::make(mem, base, last, limit))?;
+    let done = table::make(mem, base, last, limit);
+    println!(rt; "make {base:#x}..{last:#x}: {}", made(done))?;
     row(rt, mem)
 }
 
 fn main(rt: HostRuntime) -> io::Result<()> {
     let mut mem = [0u64; 329];
-    say::text(&rt, b"words for 8 ranges: ")?;
-    say::hex(&rt, table::words(8) as u64)?;
-    say::text(&rt, b"\n")?;
+    println!(rt; "words for 8 ranges: {:#x}", table::words(8))?;
 
     lowest(&rt, &mem, 1, 1)?;
     make(&rt, &mut mem, 0x1000, 0x10fff, 8)?;

@@ -1,9 +1,9 @@
 -- Laws of scanning: a run of bytes of a class, byte by byte, and that words lie within the text. Assumes nothing.
-use mathlib.Core.Path.{◌≡◌, refl, ap, ◌∙◌}
+use mathlib.Core.Path.{◌≡◌, ap, ◌∙◌}
 use mathlib.Core.Bool.{Bool, true, false, cond}
 use mathlib.Core.List.{List, [], ◌∷◌}
 use Prim.Native.Nat.{ℕ, suc, ◌+◌, ◌≤◌, ◌<◌}
-use native.Mathlib.Nat.{min-eq_left, min-eq_right, le_refl}
+use native.Mathlib.Nat.{min-eq_left, le_refl}
 use native.Mathlib.Omega.{arith}
 use native.Mathlib.Numerals.{add-one}
 use lib.ListN.{length, drop, get_or, drop_of_length-le, length-drop}
@@ -14,12 +14,8 @@ use Rattle.text.specs.declared.Class.TheVariants.{Blank, Solid}
 
 -- the run from `at` on goes on at i
 pub record Scanning (k : Class) (s : List ℕ) (at i : ℕ) : Type 0 where
-  pub within : i ≤ length s
   pub behind : at ≤ i
   pub goes : at + run k (drop at s) ≡ i + run k (drop i s)
-
-pub scanning_start : (k : Class) (s : List ℕ) (at : ℕ) → at < length s → Scanning k s at at
-scanning_start k s at h = record { within = omega arith; behind = le_refl at; goes = refl }
 
 -- one more byte of the class
 pub scanning_step : (k : Class) (s : List ℕ) (at i : ℕ) → i < length s → is_in k (get_or s i 0) ≡ true → Scanning k s at i → Scanning k s at (i + 1)
@@ -27,36 +23,28 @@ scanning_step k s at i h e w =
     let r : run k (drop i s) ≡ suc (run k (drop (suc i) s)) =
     ap (run k) (drop-cons s i 0 h) ∙ ap (λ (t : Bool). cond t (suc (run k (drop (suc i) s))) 0) e in
     record {
-      within = omega arith;
       behind = omega (arith, w.behind);
       goes = rw (add-one i) (omega (arith, w.goes, r));
     }
 
-found : (k : Class) (s : List ℕ) (at i : ℕ) → run k (drop i s) ≡ 0 → Scanning k s at i → Scanned k s at i
-unfolding scan_of
-found k s at i z w =
-    record {
-      is = omega (arith, w.goes, z, min-eq_left (let h : at ≤ length s = omega (arith, w.within, w.behind) in h));
-      within = w.within;
-      behind = λ h. w.behind;
-    }
-
 -- a byte of another class, and the end of the text
 pub scanning_stop : (k : Class) (s : List ℕ) (at i : ℕ) → i < length s → is_in k (get_or s i 0) ≡ false → Scanning k s at i → Scanned k s at i
-scanning_stop k s at i h e w =
-    found k s at i (ap (run k) (drop-cons s i 0 h) ∙ ap (λ (t : Bool). cond t (suc (run k (drop (suc i) s))) 0) e) w
-
-pub scanning_end : (k : Class) (s : List ℕ) (at i : ℕ) → length s ≤ i → Scanning k s at i → Scanned k s at i
-scanning_end k s at i h w = found k s at i (ap (run k) (drop_of_length-le s h)) w
-
--- a place beyond the text
-pub scanned_beyond : (k : Class) (s : List ℕ) (at : ℕ) → length s ≤ at → Scanned k s at (length s)
 unfolding scan_of
-scanned_beyond k s at h =
+scanning_stop k s at i h e w =
+    let z : run k (drop i s) ≡ 0 = ap (run k) (drop-cons s i 0 h) ∙ ap (λ (t : Bool). cond t (suc (run k (drop (suc i) s))) 0) e in
     record {
-      is = omega (arith, ap (run k) (drop_of_length-le s h), min-eq_right h);
+      is = omega (arith, w.goes, z, min-eq_left (let l : at ≤ length s = omega (arith, w.behind) in l));
+      within = omega arith;
+      behind = λ l. w.behind;
+    }
+
+pub scanning_end : (k : Class) (s : List ℕ) (at i : ℕ) → length s ≤ i → (at ≤ length s → i ≤ length s) → Scanning k s at i → Scanned k s at (length s)
+unfolding scan_of
+scanning_end k s at i h b w =
+    record {
+      is = grind (arith, w.goes, ap (run k) (drop_of_length-le s h), λ (l : length s ≤ at). ap (run k) (drop_of_length-le s l));
       within = le_refl (length s);
-      behind = λ l. omega arith;
+      behind = λ l. l;
     }
 
 -- a run is no longer than the text

@@ -3,7 +3,7 @@
 #![tactic(auto)]
 
 ghost use Rattle.std.specs.Prelude.{◌≡◌, ℕ, ◌+◌, ◌≤◌, ◌<◌, length, take, drop, ◌++◌};
-ghost use Rattle.text.specs.Words.{is_in, is_blank, is_solid, is_undotted, is_named, is_from, Scanned, start_of, end_of, no_word, word_is, dotted};
+ghost use Rattle.text.specs.Words.{is_in, is_blank, is_solid, is_undotted, is_named, Scanned, start_of, end_of, no_word, word_is, dotted};
 ghost use Rattle.text.specs.Words.{same as same_of};
 ghost use Rattle.text.specs.Stored.{Puts};
 
@@ -17,29 +17,16 @@ pub enum Class {
     Undotted,
 }
 
-// What putting a text into lent bytes answers: the place behind it, or that it does not fit, when
-// nothing is changed.
-#[derive(Clone, Copy)]
-pub enum Placed {
-    Next(usize),
-    NoRoom,
-}
-
 // The first place from `at` on whose byte is not of the class, or the end.
 pub fn scan(s: &[u8], at: usize, class: Class) -> usize
     ensures { Scanned class s.now at result }
 {
-    if s.len() <= at {
-        return s.len();
-    }
-    let mut i = at;
-    while i < s.len() {
+    for i in at..s.len() {
         if !is_in(class, s[i]) {
             return i;
         }
-        i += 1;
     }
-    i
+    s.len()
 }
 
 // Whether a byte is of a class.
@@ -54,93 +41,39 @@ fn is_in(class: Class, c: u8) -> bool
     }
 }
 
+#[tactic(auto, unfolding(crate::specs::Words::is_blank))]
 fn is_blank(c: u8) -> bool
     ensures { result ≡ is_blank c }
 {
-    if c == b' ' {
-        return true;
-    }
-    if c == b'\t' {
-        return true;
-    }
-    if c == b'\r' {
-        return true;
-    }
-    false
+    matches!(c, b' ' | b'\t' | b'\r')
 }
 
+#[tactic(auto, unfolding(crate::specs::Words::is_solid))]
 fn is_solid(c: u8) -> bool
     ensures { result ≡ is_solid c }
 {
-    if is_blank(c) {
-        return false;
-    }
-    if c == b'#' {
-        return false;
-    }
-    true
+    !is_blank(c) && c != b'#'
 }
 
+#[tactic(auto, unfolding(crate::specs::Words::is_undotted))]
 fn is_undotted(c: u8) -> bool
     ensures { result ≡ is_undotted c }
 {
-    if !is_solid(c) {
-        return false;
-    }
-    if c == b'.' {
-        return false;
-    }
-    true
+    is_solid(c) && c != b'.'
 }
 
+#[tactic(auto, unfolding(crate::specs::Words::is_named, crate::specs::Words::is_from))]
 fn is_named(c: u8) -> bool
     ensures { result ≡ is_named c }
 {
-    if is_from(c, b'a', b'z') {
-        return true;
-    }
-    if is_from(c, b'A', b'Z') {
-        return true;
-    }
-    if is_from(c, b'0', b'9') {
-        return true;
-    }
-    if c == b'-' {
-        return true;
-    }
-    if c == b'_' {
-        return true;
-    }
-    false
-}
-
-fn is_from(c: u8, low: u8, high: u8) -> bool
-    ensures { result ≡ is_from c low high }
-{
-    if c < low {
-        return false;
-    }
-    if high < c {
-        return false;
-    }
-    true
+    matches!(c, b'a'..=b'z' | b'A'..=b'Z' | b'0'..=b'9' | b'-' | b'_')
 }
 
 // Whether two texts are the same.
 pub fn same(s: &[u8], t: &[u8]) -> bool
     ensures { result ≡ same_of s.now t.now }
 {
-    if s.len() != t.len() {
-        return false;
-    }
-    let mut i = 0;
-    while i < s.len() {
-        if s[i] != t[i] {
-            return false;
-        }
-        i += 1;
-    }
-    true
+    s == t
 }
 
 // Where the next word from `at` on starts; where there is none, where the line's text ends.
@@ -158,6 +91,7 @@ pub fn end(s: &[u8], at: usize) -> usize
 }
 
 // Whether there is no word from `at` on.
+#[tactic(auto, unfolding(crate::specs::Words::no_word))]
 pub fn no_word(s: &[u8], at: usize) -> bool
     ensures { result ≡ no_word s.now at }
 {
@@ -165,6 +99,7 @@ pub fn no_word(s: &[u8], at: usize) -> bool
 }
 
 // Whether the next word from `at` on is this one.
+#[tactic(auto, unfolding(crate::specs::Words::word_is))]
 pub fn word_is(s: &[u8], at: usize, key: &[u8]) -> bool
     ensures { result ≡ word_is s.now at key.now }
 {
@@ -174,6 +109,7 @@ pub fn word_is(s: &[u8], at: usize, key: &[u8]) -> bool
 }
 
 // Whether the next word from `at` on has a dot in it.
+#[tactic(auto, unfolding(crate::specs::Words::dotted))]
 pub fn has_dot(s: &[u8], at: usize) -> bool
     ensures { result ≡ dotted s.now at }
 {
@@ -181,20 +117,15 @@ pub fn has_dot(s: &[u8], at: usize) -> bool
     scan(s, a, Class::Undotted) != scan(s, a, Class::Solid)
 }
 
-// Puts a text into `out` from `at` on.
-pub fn put(out: &mut [u8], at: usize, t: &[u8]) -> Placed
+// Puts a text into `out` from `at` on, and answers the place behind it; None where it does not fit,
+// when nothing is changed.
+pub fn put(out: &mut [u8], at: usize, t: &[u8]) -> Option<usize>
     ensures { Puts t.now at out.old out.new result }
 {
-    if out.len() < at {
-        return Placed::NoRoom;
+    let end = at.checked_add(t.len())?;
+    if out.len() < end {
+        return None;
     }
-    if out.len() - at < t.len() {
-        return Placed::NoRoom;
-    }
-    let mut i = 0;
-    while i < t.len() {
-        out[at + i] = t[i];
-        i += 1;
-    }
-    Placed::Next(at + i)
+    out[at..end].copy_from_slice(t);
+    Some(end)
 }

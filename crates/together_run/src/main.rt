@@ -1,61 +1,32 @@
 // A copy to try things on, and several things or none: a line for each answer, held to the stored output.
 #![tactic(auto)]
 
-use addresses::Setup;
-use both::{Pair, Triple};
-use copied::Copied;
-use ranges::{AllocPolicy, Constraint, Error};
+use both::{PairError, TripleError};
+use ranges::{AllocPolicy, Constraint, Error, RangeInclusive};
 use std::io;
 
-fn refused(rt: &impl Print, who: &[u8], e: Error) -> io::Result<()> {
-    say::text(rt, who)?;
-    say::reason(rt, e)
+fn pair(rt: &impl Print, a: Result<(RangeInclusive, RangeInclusive), PairError>) -> io::Result<()> {
+    match a {
+        Ok((r, s)) => println!(rt; "{r} {s}"),
+        Err(PairError::First(e)) => println!(rt; "first: {e}"),
+        Err(PairError::Second(e)) => println!(rt; "second: {e}"),
+    }
 }
 
-fn window(rt: &impl Print, a: addresses::Answer) -> io::Result<()> {
+fn triple(
+    rt: &impl Print,
+    a: Result<(RangeInclusive, RangeInclusive, u32), TripleError>,
+) -> io::Result<()> {
     match a {
-        addresses::Answer::Granted(r) => say::window(rt, r)?,
-        addresses::Answer::Freed(r) => say::window(rt, r)?,
-        addresses::Answer::Refused(e) => say::reason(rt, e)?,
+        Ok((r, s, id)) => println!(rt; "{r} {s} {id:#x}"),
+        Err(TripleError::First(e)) => println!(rt; "first: {e}"),
+        Err(TripleError::Second(e)) => println!(rt; "second: {e}"),
+        Err(TripleError::Third(e)) => println!(rt; "third: {e}"),
     }
-    say::text(rt, b"\n")
 }
 
-fn pair(rt: &impl Print, a: Pair) -> io::Result<()> {
-    match a {
-        Pair::Both { first, second } => {
-            say::window(rt, first)?;
-            say::text(rt, b" ")?;
-            say::window(rt, second)?;
-        }
-        Pair::First(e) => refused(rt, b"first: ", e)?,
-        Pair::Second(e) => refused(rt, b"second: ", e)?,
-    }
-    say::text(rt, b"\n")
-}
-
-fn triple(rt: &impl Print, a: Triple) -> io::Result<()> {
-    match a {
-        Triple::All { first, second, id } => {
-            say::window(rt, first)?;
-            say::text(rt, b" ")?;
-            say::window(rt, second)?;
-            say::text(rt, b" ")?;
-            say::hex(rt, id as u64)?;
-        }
-        Triple::First(e) => refused(rt, b"first: ", e)?,
-        Triple::Second(e) => refused(rt, b"second: ", e)?,
-        Triple::Third(e) => refused(rt, b"third: ", e)?,
-    }
-    say::text(rt, b"\n")
-}
-
-fn copy(rt: &impl Print, a: Copied) -> io::Result<()> {
-    match a {
-        Copied::Done => say::text(rt, b"copied")?,
-        Copied::Refused(e) => say::reason(rt, e)?,
-    }
-    say::text(rt, b"\n")
+fn copy(rt: &impl Print, done: Result<(), Error>) -> io::Result<()> {
+    say::answer(rt, done.map(|_| "copied"))
 }
 
 fn first_of(size: u64) -> Constraint {
@@ -66,47 +37,29 @@ fn first_of(size: u64) -> Constraint {
     }
 }
 
+// A window, or why there is none.
+fn window(rt: &impl Print, mem: &mut [u64], size: u64, policy: AllocPolicy) -> io::Result<()> {
+    say::answer(rt, addresses::allocate(mem, size, 16, policy))
+}
+
 // A pool with two ranges is copied; what is done to the copy is not done to the pool.
 fn copies(rt: &impl Print) -> io::Result<()> {
     let mut mem = [0u64; 329];
     let mut tried = [0u64; 329];
     let mut short = [0u64; 328];
-    if let Setup::Ready = addresses::new(&mut mem, 0x1000, 0x100, 4) {
-        window(
-            rt,
-            addresses::allocate(&mut mem, 0x10, 16, AllocPolicy::FirstMatch),
-        )?;
-        window(
-            rt,
-            addresses::allocate(&mut mem, 0x20, 16, AllocPolicy::ExactMatch(0x1040)),
-        )?;
+    if addresses::new(&mut mem, 0x1000, 0x100, 4).is_ok() {
+        window(rt, &mut mem, 0x10, AllocPolicy::FirstMatch)?;
+        window(rt, &mut mem, 0x20, AllocPolicy::ExactMatch(0x1040))?;
         copy(rt, copied::copy(&mem, &mut short, 4))?;
         copy(rt, copied::copy(&mem, &mut tried, 3))?;
         copy(rt, copied::copy(&short, &mut tried, 4))?;
         copy(rt, copied::copy(&mem, &mut tried, 8))?;
-        window(
-            rt,
-            addresses::allocate(&mut tried, 0x10, 16, AllocPolicy::ExactMatch(0x1080)),
-        )?;
-        window(
-            rt,
-            addresses::allocate(&mut mem, 0x10, 16, AllocPolicy::ExactMatch(0x1080)),
-        )?;
-        window(rt, addresses::free(&mut tried, 0x1000, 0x100f))?;
-        window(
-            rt,
-            addresses::allocate(&mut mem, 0x10, 16, AllocPolicy::ExactMatch(0x1000)),
-        )?;
+        window(rt, &mut tried, 0x10, AllocPolicy::ExactMatch(0x1080))?;
+        window(rt, &mut mem, 0x10, AllocPolicy::ExactMatch(0x1080))?;
+        say::answer(rt, addresses::free(&mut tried, 0x1000, 0x100f))?;
+        window(rt, &mut mem, 0x10, AllocPolicy::ExactMatch(0x1000))?;
     }
     Ok(())
-}
-
-// A window alone.
-fn one(rt: &impl Print, mem: &mut [u64; 329], size: u64) -> io::Result<()> {
-    window(
-        rt,
-        addresses::allocate(mem, size, 16, AllocPolicy::FirstMatch),
-    )
 }
 
 // A window and ports for a card.
@@ -143,17 +96,17 @@ fn cards(rt: &impl Print) -> io::Result<()> {
     let mut windows = [0u64; 329];
     let mut ports = [0u64; 329];
     let mut irqs = [0u64; 8];
-    addresses::new(&mut windows, 0xd000_0000, 0x1000, 8);
-    addresses::new(&mut ports, 0xc000, 0x100, 8);
-    ids::new(&mut irqs, 5, 5);
+    let _ = addresses::new(&mut windows, 0xd000_0000, 0x1000, 8);
+    let _ = addresses::new(&mut ports, 0xc000, 0x100, 8);
+    let _ = ids::new(&mut irqs, 5, 5);
     two(rt, &mut windows, &mut ports, 0x100, 0x80)?;
     two(rt, &mut windows, &mut ports, 0x100, 0x100)?;
     two(rt, &mut windows, &mut ports, 0x2000, 0x10)?;
     three(rt, &mut windows, &mut ports, &mut irqs, 0x100, 0x40)?;
     three(rt, &mut windows, &mut ports, &mut irqs, 0x100, 0x40)?;
     three(rt, &mut windows, &mut ports, &mut irqs, 0x100, 0)?;
-    one(rt, &mut windows, 0x10)?;
-    one(rt, &mut ports, 0x40)
+    window(rt, &mut windows, 0x10, AllocPolicy::FirstMatch)?;
+    window(rt, &mut ports, 0x40, AllocPolicy::FirstMatch)
 }
 
 fn main(rt: HostRuntime) -> io::Result<()> {

@@ -2,9 +2,12 @@
 #![tactic(auto)]
 
 ghost use Rattle.std.specs.Prelude.{◌≡◌};
-ghost use Rattle.told.specs.Told.{answer_of, verdict_of, pool_of, id_answer_of, id_verdict_of, ids_of, use_of, yes_of};
+ghost use Rattle.told.specs.Told.{answer_of, id_answer_of, refusal_of, verdict_of, outcome_of, pool_of, ids_of, use_of, yes_of};
 
-use replay::{IdOutcome, PoolOutcome};
+use addresses::Answer;
+use ranges::Error;
+use replay::Outcome;
+use verdict::Verdict;
 
 // A number that names a case, and two numbers that it holds.
 #[derive(Clone, Copy)]
@@ -14,103 +17,103 @@ pub struct Case {
     pub b: u64,
 }
 
-fn answer(x: addresses::Answer) -> Case
-    ensures { result ≡ answer_of x }
-{
-    match x {
-        addresses::Answer::Granted(r) => Case {
-            kind: 1,
-            a: r.start,
-            b: r.end,
-        },
-        addresses::Answer::Freed(r) => Case {
-            kind: 3,
-            a: r.start,
-            b: r.end,
-        },
-        addresses::Answer::Refused(e) => Case {
-            kind: 4,
-            a: e.number() as u64,
-            b: 0,
-        },
+// An answer that is told by a case.
+trait Told: Copy {
+    ghost use Rattle.told.specs.declared.Case.{Case};
+
+    ghost case_of: { Self → Case };
+
+    fn case(self) -> Case
+        ensures { result ≡ case_of self };
+}
+
+impl Told for Answer {
+    ghost case_of = { answer_of };
+
+    fn case(self) -> Case {
+        match self {
+            Answer::Granted(r) => Case {
+                kind: 1,
+                a: r.start,
+                b: r.end,
+            },
+            Answer::Freed(r) => Case {
+                kind: 3,
+                a: r.start,
+                b: r.end,
+            },
+            Answer::Refused(e) => refusal(e),
+        }
     }
 }
 
-fn verdict(v: pool_audit::Verdict) -> [u64; 5]
-    ensures { result ≡ verdict_of v }
+impl Told for Result<u32, Error> {
+    ghost case_of = { id_answer_of };
+
+    fn case(self) -> Case {
+        match self {
+            Ok(n) => Case {
+                kind: 2,
+                a: n as u64,
+                b: 0,
+            },
+            Err(e) => refusal(e),
+        }
+    }
+}
+
+fn refusal(e: Error) -> Case
+    ensures { result ≡ refusal_of e }
+{
+    Case {
+        kind: 4,
+        a: e.number() as u64,
+        b: 0,
+    }
+}
+
+fn verdict<A: Told>(v: Verdict<A>) -> [u64; 5]
+    ensures { result ≡ verdict_of A.case_of v }
 {
     match v {
-        pool_audit::Verdict::Right => [2, 0, 0, 0, 0],
-        pool_audit::Verdict::Followed(x) => {
-            let w = answer(x);
+        Verdict::Right => [2, 0, 0, 0, 0],
+        Verdict::Followed(x) => {
+            let w = x.case();
             [3, w.kind, w.a, w.b, 0]
         }
-        pool_audit::Verdict::Stayed(x, e) => {
-            let w = answer(x);
+        Verdict::Stayed(x, e) => {
+            let w = x.case();
             [4, w.kind, w.a, w.b, e.number() as u64]
         }
+    }
+}
+
+// What became of a line on a block.
+fn outcome<A: Told>(o: Outcome<A>) -> [u64; 5]
+    ensures { result ≡ outcome_of A.case_of o }
+{
+    match o {
+        Outcome::Unfit => [0, 0, 0, 0, 0],
+        Outcome::Answered(x) => {
+            let w = x.case();
+            [1, w.kind, w.a, w.b, 0]
+        }
+        Outcome::Judged(v) => verdict(v),
     }
 }
 
 // What became of a line on a pool.
-pub fn pool(o: PoolOutcome) -> [u64; 5]
+pub fn pool(o: Outcome<Answer>) -> [u64; 5]
     ensures { result ≡ pool_of o }
 {
-    match o {
-        PoolOutcome::Unfit => [0, 0, 0, 0, 0],
-        PoolOutcome::Answered(x) => {
-            let w = answer(x);
-            [1, w.kind, w.a, w.b, 0]
-        }
-        PoolOutcome::Judged(v) => verdict(v),
-    }
-}
-
-fn id_answer(x: ids::Answer) -> Case
-    ensures { result ≡ id_answer_of x }
-{
-    match x {
-        ids::Answer::Id(n) => Case {
-            kind: 2,
-            a: n as u64,
-            b: 0,
-        },
-        ids::Answer::Refused(e) => Case {
-            kind: 4,
-            a: e.number() as u64,
-            b: 0,
-        },
-    }
-}
-
-fn id_verdict(v: id_audit::Verdict) -> [u64; 5]
-    ensures { result ≡ id_verdict_of v }
-{
-    match v {
-        id_audit::Verdict::Right => [2, 0, 0, 0, 0],
-        id_audit::Verdict::Followed(x) => {
-            let w = id_answer(x);
-            [3, w.kind, w.a, w.b, 0]
-        }
-        id_audit::Verdict::Stayed(x, e) => {
-            let w = id_answer(x);
-            [4, w.kind, w.a, w.b, e.number() as u64]
-        }
-    }
+    outcome(o)
 }
 
 // What became of a line on an interval of ids.
-pub fn interval(o: IdOutcome) -> [u64; 5]
+pub fn interval(o: Outcome<Result<u32, Error>>) -> [u64; 5]
     ensures { result ≡ ids_of o }
 {
-    match o {
-        IdOutcome::Unfit => [0, 0, 0, 0, 0],
-        IdOutcome::Answered(x) => {
-            let w = id_answer(x);
-            [1, w.kind, w.a, w.b, 0]
-        }
-        IdOutcome::Judged(v) => id_verdict(v),
-    }
+    outcome(o)
 }
 
 // What became of a question whether an id is granted: the answer is 5 for yes, 6 for no.
@@ -120,12 +123,8 @@ pub fn used(o: asked::Outcome) -> [u64; 5]
     match o {
         asked::Outcome::Unfit => [0, 0, 0, 0, 0],
         asked::Outcome::Told(b) => [1, yes(b), 0, 0, 0],
-        asked::Outcome::Judged(b, right) => {
-            if right {
-                return [2, 0, 0, 0, 0];
-            }
-            [3, yes(b), 0, 0, 0]
-        }
+        asked::Outcome::Judged(_, true) => [2, 0, 0, 0, 0],
+        asked::Outcome::Judged(b, false) => [3, yes(b), 0, 0, 0],
     }
 }
 

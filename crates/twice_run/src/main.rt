@@ -2,34 +2,33 @@
 // granted range. A line for each answer, held to the stored output.
 #![tactic(auto)]
 
-use addresses::Setup;
-use ranges::AllocPolicy;
+use ranges::{AllocPolicy, Error};
 use std::io;
 
-fn id(rt: &impl Print, a: ids::Answer) -> io::Result<()> {
+fn id(rt: &impl Print, a: Result<u32, Error>) -> io::Result<()> {
     match a {
-        ids::Answer::Id(i) => say::hex(rt, i as u64)?,
-        ids::Answer::Refused(e) => say::reason(rt, e)?,
+        Ok(i) => println!(rt; "{i:#x}"),
+        Err(e) => println!(rt; "{e}"),
     }
-    say::text(rt, b"\n")
 }
 
-fn window(rt: &impl Print, a: addresses::Answer) -> io::Result<()> {
-    match a {
-        addresses::Answer::Granted(r) => say::window(rt, r)?,
-        addresses::Answer::Freed(r) => {
-            say::window(rt, r)?;
-            say::text(rt, b" freed")?;
-        }
-        addresses::Answer::Refused(e) => say::reason(rt, e)?,
+// Asks for a window at an address, or for the whole pool.
+fn window(rt: &impl Print, mem: &mut [u64], size: u64, policy: AllocPolicy) -> io::Result<()> {
+    say::answer(rt, addresses::allocate(mem, size, 1, policy))
+}
+
+// Gives a window back.
+fn back(rt: &impl Print, mem: &mut [u64], start: u64, end: u64) -> io::Result<()> {
+    match addresses::free(mem, start, end) {
+        Ok(r) => println!(rt; "{r} freed"),
+        Err(e) => println!(rt; "{e}"),
     }
-    say::text(rt, b"\n")
 }
 
 // The id that would be granted next is given back; the two grants after that are of two ids.
 fn numbers(rt: &impl Print) -> io::Result<()> {
     let mut mem = [0u64; 8];
-    if let ids::Setup::Ready = ids::new(&mut mem, 5, 23) {
+    if ids::new(&mut mem, 5, 23).is_ok() {
         id(rt, ids::allocate(&mut mem))?;
         id(rt, ids::free(&mut mem, 6))?;
         id(rt, ids::allocate(&mut mem))?;
@@ -43,25 +42,13 @@ fn numbers(rt: &impl Print) -> io::Result<()> {
 // A window inside a granted range is granted only after the whole range is given back.
 fn windows(rt: &impl Print) -> io::Result<()> {
     let mut mem = [0u64; 329];
-    if let Setup::Ready = addresses::new(&mut mem, 0, 0x1000, 8) {
-        window(
-            rt,
-            addresses::allocate(&mut mem, 0x1000, 1, AllocPolicy::FirstMatch),
-        )?;
-        window(
-            rt,
-            addresses::allocate(&mut mem, 0x10, 1, AllocPolicy::ExactMatch(0x100)),
-        )?;
-        window(rt, addresses::free(&mut mem, 0x100, 0x10f))?;
-        window(
-            rt,
-            addresses::allocate(&mut mem, 0x10, 1, AllocPolicy::ExactMatch(0x100)),
-        )?;
-        window(rt, addresses::free(&mut mem, 0, 0xfff))?;
-        window(
-            rt,
-            addresses::allocate(&mut mem, 0x10, 1, AllocPolicy::ExactMatch(0x100)),
-        )?;
+    if addresses::new(&mut mem, 0, 0x1000, 8).is_ok() {
+        window(rt, &mut mem, 0x1000, AllocPolicy::FirstMatch)?;
+        window(rt, &mut mem, 0x10, AllocPolicy::ExactMatch(0x100))?;
+        back(rt, &mut mem, 0x100, 0x10f)?;
+        window(rt, &mut mem, 0x10, AllocPolicy::ExactMatch(0x100))?;
+        back(rt, &mut mem, 0, 0xfff)?;
+        window(rt, &mut mem, 0x10, AllocPolicy::ExactMatch(0x100))?;
     }
     Ok(())
 }

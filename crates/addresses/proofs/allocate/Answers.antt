@@ -1,28 +1,14 @@
--- `addresses::allocate` meets its contract: a request that is not in order by its reason, any other by the step of its policy.
-use Rattle.std.proofs.Common.{sym, subst, rules}
-use Rattle.ranges.specs.declared.AllocPolicy.{AllocPolicy}
-use Rattle.ranges.specs.Request.{Proper}
-use Rattle.addresses.specs.Contract.{Performs, asking}
-use Rattle.addresses.proofs.RequestLaws.{request_proper, request_refused}
+-- `addresses::allocate` meets its contract: a request that is not in order by its reason, any other by where it is to start.
+use Rattle.std.proofs.lemmas.Result.{err_from_is_err_and}
+use Rattle.addresses.proofs.RequestLaws.{request_refused}
+use Rattle.addresses.proofs.GrantLaws.{placed_grants, placed_refused}
 use Rattle.addresses.proofs.allocate.Goals as goal
 
-pub returns-in-Refused : goal.returns-in-Refused
-returns-in-Refused c = let st = c in request_refused st.args.mem.now st.args.size st.args.align st.args.policy _ c.new-made.result c.new-made.ensures c.in-Refused.is
+pub returns-in_err-q : goal.returns-in_err-q
+returns-in_err-q c = let f = c in let p = err_from_is_err_and f.from_residual.result f.from_residual.ensures.1 in rw (p.1, p.2) (request_refused f.args.mem.now f.args.size f.args.align f.args.policy _ f.in_err-q.ensures)
 
-pub first-requires : goal.first-requires
-first-requires c = let st = c in subst (Proper st.args.size st.args.align) c.in-FirstMatch.is (request_proper st.args.size st.args.align st.args.policy _ c.new-made.result c.new-made.ensures c.in_default.is)
+pub returns-in_err-a : goal.returns-in_err-a
+returns-in_err-a c = let f = c in let p = err_from_is_err_and f.from_residual-in_err-a.result f.from_residual-in_err-a.ensures.1 in rw (p.1, p.2) (placed_refused f.args.mem.now f.args.size f.args.align f.args.policy f.in_ok-q.q f.in_ok-q.ensures _ f.in_err-a.ensures)
 
-pub last-requires : goal.last-requires
-last-requires c = let st = c in subst (Proper st.args.size st.args.align) c.in-LastMatch.is (request_proper st.args.size st.args.align st.args.policy _ c.new-made.result c.new-made.ensures c.in_default.is)
-
-pub exact-requires : goal.exact-requires
-exact-requires c = let st = c in subst (Proper st.args.size st.args.align) c.in-ExactMatch.is (request_proper st.args.size st.args.align st.args.policy _ c.new-made.result c.new-made.ensures c.in_default.is)
-
-pub returns-in-FirstMatch : goal.returns-in-FirstMatch
-returns-in-FirstMatch c = let st = c in subst (λ (w : AllocPolicy). Performs st.args.mem.now (asking st.args.size st.args.align w) c.first.result c.first.new.mem) (sym c.in-FirstMatch.is) c.first.ensures
-
-pub returns-in-LastMatch : goal.returns-in-LastMatch
-returns-in-LastMatch c = let st = c in subst (λ (w : AllocPolicy). Performs st.args.mem.now (asking st.args.size st.args.align w) c.last.result c.last.new.mem) (sym c.in-LastMatch.is) c.last.ensures
-
-pub returns-in-ExactMatch : goal.returns-in-ExactMatch
-returns-in-ExactMatch c = let st = c in subst (λ (w : AllocPolicy). Performs st.args.mem.now (asking st.args.size st.args.align w) c.exact.result c.exact.new.mem) (sym c.in-ExactMatch.is) c.exact.ensures
+pub returns : goal.returns
+returns c = let f = c in placed_grants f.args.mem.now f.args.size f.args.align f.args.policy f.in_ok-q.q f.in_ok-q.ensures f.grant.new.mem f.in_ok-a.a _ f.in_ok-a.ensures f.grant.ensures

@@ -5,14 +5,11 @@ use Rattle.std.proofs.Math.ListN.{set, length-set}
 use borrow.Rule.Slice.PartMut.{put_mid, same_len_mid}
 use Rattle.bits.specs.Bits.{Summed, Flipped}
 use Rattle.bits.proofs.Levels.{summed_room, flip_bottom, flip_level, flip_raised, mid_tail, put_tail}
-use Rattle.bits.proofs.+flip.Goals.{then-old+else-new, else-old}
+use Rattle.bits.proofs.+flip.Goals.{else-old-via-then-old+else-new, else-old-via-else-old}
 use Rattle.bits.proofs.+flip.Goals as goal
 
 pub returns-then-mem-top : goal.returns-then-mem-top
 returns-then-mem-top t c = λ d s h. absurd (omega (arith, summed_room d _ _ s))
-
-pub returns-then-top-w : goal.returns-then-top-w
-returns-then-top-w t c = λ d s h. absurd (omega arith)
 
 pub returns-then-top-eq0 : goal.returns-then-top-eq0
 returns-then-top-eq0 t c = λ d s h. flip_bottom _ _ _ _ c.toggled-new.ensures (summed_room d _ _ s) h c.if-top-eq0.true d s
@@ -34,5 +31,5 @@ returns t c = λ d s h.
     same_len_mid n (length xs - n) xs up c.flip.auto.mem ∙ length-set ws (a.i / 64) _ in
     subst (λ (l : List ℕ). Flipped ws l a.last a.i × Summed d l a.last) (sym (put_tail n xs up))
     (flip_raised ws a.last a.i _ c.toggled-new.ensures (summed_room d _ _ s) h up c.if-top-eq0.false
-    (elim c.if-old.branch [ then-old+else-new w ↦ inr (w.if-old.true, w.if-new.false) | else-old w ↦ inl w.if-old.false ])
+    (elim c.else-old.branch [ else-old-via-then-old+else-new w ↦ inr (w.if-old.true, w.if-new.false) | else-old-via-else-old w ↦ inl w.if-old.false ])
     said (sym (ap length (put_tail n xs up)) ∙ kept) d s)

@@ -1,12 +1,9 @@
 -- `blocks::search_up` meets its contract.
-use Prim.Native.Nat.{◌+◌, ◌-◌, ◌≤◌}
+use Prim.Native.Nat.{◌+◌}
 use Rattle.blocks.specs.Blocks.{sizes, Ready}
 use Rattle.ranges.specs.Align.{PowerOfTwo}
 use Rattle.blocks.proofs.Searches.{NoneBelow}
 use Rattle.blocks.proofs.search_up.Given as goal
 
 abbrev pub invariant-loop-b : goal.invariant-loop-b
-invariant-loop-b l = (l.b ≤ l.nb) × (Ready l.mem → PowerOfTwo (l.mask + 1) → NoneBelow l.mem (l.more + 1) (l.mask + 1) (sizes 0 l.b l.mem))
-
-abbrev pub decreases-loop-b : goal.decreases-loop-b
-decreases-loop-b l = l.nb - l.b
+invariant-loop-b l = Ready l.mem → PowerOfTwo (l.mask + 1) → NoneBelow l.mem (l.more + 1) (l.mask + 1) (sizes 0 l.b l.mem)

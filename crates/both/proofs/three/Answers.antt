@@ -1,20 +1,20 @@
 -- `both::three` meets its contract: what `two` answers, and then `ids::allocate`.
-use Rattle.both.proofs.BothLaws.{triple_one, triple_two, triple_all, triple_three}
-use borrow.Author.Rules.{rules}
+use Rattle.std.proofs.lemmas.Result.{err_from_is_err_and}
+use Rattle.both.proofs.BothLaws.{triple_refused, triple_all, triple_three}
 use Rattle.both.proofs.three.Goals as goal
 
-pub returns-in-First : goal.returns-in-First
-returns-in-First c = triple_one _ _ _ _ _ _ _ _ c.two-ranges.ensures _ c.in-First.is
-
-pub returns-in-Second : goal.returns-in-Second
-returns-in-Second c = triple_two _ _ _ _ _ _ _ _ c.two-ranges.ensures _ c.in-Second.is
-
-pub returns-in-Id : goal.returns-in-Id
-returns-in-Id c =
+pub returns-in_err-x : goal.returns-in_err-x
+returns-in_err-x c =
     let f = c in
-    triple_all _ _ _ _ _ _ _ _ f.two-ranges.ensures _ _ f.in-Both.is _ _ c.allocate-answer.ensures _ c.in-Id.is
+    let p = err_from_is_err_and f.from_residual.result f.from_residual.ensures.1 in
+    rw (p.1, p.2) (triple_refused f.args.a.now f.args.b.now f.args.c.now f.two.new.a f.two.new.b f.args.q f.args.w _ f.in_err-x.ensures)
 
-pub returns-in-Refused : goal.returns-in-Refused
-returns-in-Refused c =
+pub returns-in-Ok : goal.returns-in-Ok
+returns-in-Ok c =
     let f = c in
-    triple_three _ _ _ _ _ _ _ _ f.two-ranges.ensures _ _ f.in-Both.is _ _ c.allocate-answer.ensures _ c.in-Refused.is _ _ c.give_back.ensures c.give_back-in-Refused.ensures
+    triple_all f.args.a.now f.args.b.now f.args.c.now f.two.new.a f.two.new.b f.args.q f.args.w f.in_ok-x.x f.in_ok-x.y f.in_ok-x.ensures _ f.in-Ok.i f.in-Ok.ensures
+
+pub returns-in-Err : goal.returns-in-Err
+returns-in-Err c =
+    let f = c in
+    triple_three f.args.a.now f.args.b.now f.args.c.now f.two.new.a f.two.new.b f.args.q f.args.w f.in_ok-x.x f.in_ok-x.y f.in_ok-x.ensures _ f.in-Err.e f.in-Err.ensures _ _ f.give_back.ensures f.give_back-in-Err.ensures

@@ -1,53 +1,13 @@
--- `claims::take_reason` meets its contract: each answer by the fields and words that led there.
+-- `claims::take_reason` meets its contract: the reasons that are left decide.
 use mathlib.Core.Path.{sym, ◌∙◌}
-use Rattle.claims.specs.Claims.{reason_at}
+use native.Mathlib.Omega.{arith}
+use Rattle.claims.proofs.Reasons.{all_reasons, of_all, first_step}
 use Rattle.claims.proofs.take_reason.Goals as goal
 
-pub reason_is-requires : goal.reason_is-requires
-reason_is-requires c = tt
+pub loop-reason-init : goal.loop-reason-init
+loop-reason-init c = of_all c.args.s.now c.args.at
 
-pub returns-then-reason_is : goal.returns-then-reason_is
-unfolding reason_at
-returns-then-reason_is c = rw (sym c.reason_is.ensures ∙ c.if-reason_is.true)
-
-pub reason_is-requires-2 : goal.reason_is-requires-2
-reason_is-requires-2 c = tt
-
-pub returns-then-reason_is-2 : goal.returns-then-reason_is-2
-unfolding reason_at
-returns-then-reason_is-2 c = rw (sym c.reason_is.ensures ∙ c.if-reason_is.false, sym c.reason_is-2.ensures ∙ c.if-reason_is-2.true)
-
-pub reason_is-requires-3 : goal.reason_is-requires-3
-reason_is-requires-3 c = tt
-
-pub returns-then-reason_is-3 : goal.returns-then-reason_is-3
-unfolding reason_at
-returns-then-reason_is-3 c = rw (sym c.reason_is.ensures ∙ c.if-reason_is.false, sym c.reason_is-2.ensures ∙ c.if-reason_is-2.false, sym c.reason_is-3.ensures ∙ c.if-reason_is-3.true)
-
-pub reason_is-requires-4 : goal.reason_is-requires-4
-reason_is-requires-4 c = tt
-
-pub returns-then-reason_is-4 : goal.returns-then-reason_is-4
-unfolding reason_at
-returns-then-reason_is-4 c = rw (sym c.reason_is.ensures ∙ c.if-reason_is.false, sym c.reason_is-2.ensures ∙ c.if-reason_is-2.false, sym c.reason_is-3.ensures ∙ c.if-reason_is-3.false, sym c.reason_is-4.ensures ∙ c.if-reason_is-4.true)
-
-pub reason_is-requires-5 : goal.reason_is-requires-5
-reason_is-requires-5 c = tt
-
-pub returns-then-reason_is-5 : goal.returns-then-reason_is-5
-unfolding reason_at
-returns-then-reason_is-5 c = rw (sym c.reason_is.ensures ∙ c.if-reason_is.false, sym c.reason_is-2.ensures ∙ c.if-reason_is-2.false, sym c.reason_is-3.ensures ∙ c.if-reason_is-3.false, sym c.reason_is-4.ensures ∙ c.if-reason_is-4.false, sym c.reason_is-5.ensures ∙ c.if-reason_is-5.true)
-
-pub reason_is-requires-6 : goal.reason_is-requires-6
-reason_is-requires-6 c = tt
-
-pub returns-then-reason_is-6 : goal.returns-then-reason_is-6
-unfolding reason_at
-returns-then-reason_is-6 c = rw (sym c.reason_is.ensures ∙ c.if-reason_is.false, sym c.reason_is-2.ensures ∙ c.if-reason_is-2.false, sym c.reason_is-3.ensures ∙ c.if-reason_is-3.false, sym c.reason_is-4.ensures ∙ c.if-reason_is-4.false, sym c.reason_is-5.ensures ∙ c.if-reason_is-5.false, sym c.reason_is-6.ensures ∙ c.if-reason_is-6.true)
-
-pub take_reason_more-requires : goal.take_reason_more-requires
-take_reason_more-requires c = tt
-
-pub returns : goal.returns
-unfolding reason_at
-returns c = rw (sym c.reason_is.ensures ∙ c.if-reason_is.false, sym c.reason_is-2.ensures ∙ c.if-reason_is-2.false, sym c.reason_is-3.ensures ∙ c.if-reason_is-3.false, sym c.reason_is-4.ensures ∙ c.if-reason_is-4.false, sym c.reason_is-5.ensures ∙ c.if-reason_is-5.false, sym c.reason_is-6.ensures ∙ c.if-reason_is-6.false, sym c.take_reason_more.ensures)
+pub loop-reason-preserved : goal.loop-reason-preserved
+loop-reason-preserved c =
+    let a = c.args in
+    sym (first_step a.s.now a.at c.loop-reason.reason-index all_reasons _ (omega arith) (sym c.reason_is.ensures ∙ c.if-reason_is.false)) ∙ c.loop-reason.invariant

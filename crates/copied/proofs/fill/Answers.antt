@@ -1,12 +1,7 @@
--- `copied::fill` meets its contract. The invariant: the copy has just the granted ones among the ranges passed (`Filled`). The measure is how many are left.
-use Rattle.std.proofs.Common.{◌≡◌, ℕ, ◌-◌, ◌≤◌, length, refl, ◌∙◌, arith, rules}
-use Rattle.addresses.specs.Meaning.{row_of}
-use Rattle.addresses.specs.Operations.{Pool}
-use Rattle.addresses.specs.Held.{Holds}
-use Rattle.copied.specs.Copy.{limited}
-use Rattle.copied.specs.Steps.{empty}
+-- `copied::fill` meets its contract. The invariant: the copy has just the granted ones among the ranges passed (`Filled`).
+use Rattle.std.proofs.Common.{refl, ◌∙◌, arith}
 use Rattle.copied.proofs.CarryLaws.{carries_some}
-use Rattle.copied.proofs.CopyLaws.{Filled, filled_start, filled_step, filled_end}
+use Rattle.copied.proofs.CopyLaws.{filled_start, filled_step, filled_end}
 use Rattle.copied.proofs.fill.Goals as goal
 
 pub loop-i-init : goal.loop-i-init

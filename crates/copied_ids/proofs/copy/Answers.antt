@@ -1,19 +1,27 @@
 -- `copied_ids::copy` meets its contract: each end by the tests and calls that led there.
+use Rattle.std.proofs.Common.{◌≡◌, Some, None, Err, rules, arith}
+use Rattle.std.proofs.lemmas.Grind.{common_steps}
+use Rattle.ranges.specs.declared.Error.{Error}
 use Rattle.copied_ids.proofs.CopyLaws.{copy_none, copy_cut, copy_short, copy_done}
-use borrow.Author.Rules.{rules}
 use Rattle.copied_ids.proofs.copy.Goals as goal
 
-pub returns-in_default : goal.returns-in_default
-returns-in_default c = copy_none _ _ _ c.bounds-interval.ensures c.in_default.is
+pub returns-in_err-interval : goal.returns-in_err-interval
+returns-in_err-interval c =
+    let e : c.from_residual.result ≡ Err Error.NoState = grind (arith, common_steps) in
+    let n : c.bounds.result ≡ None = search rules in
+    rw e (copy_none _ _ _ c.bounds.ensures n)
 
 pub returns-then-src-n : goal.returns-then-src-n
-returns-then-src-n c = let b = c in copy_cut _ _ _ b.bounds-interval.ensures _ _ _ _ b.in-Of.is c.words_needed-n.ensures c.if-src-n.true
+returns-then-src-n c =
+    let s : c.bounds.result ≡ Some c.in_ok-interval.interval = search rules in
+    copy_cut _ _ _ c.bounds.ensures _ _ s c.words_needed-n.ensures c.if-src-n.true
 
 pub returns-then-dst-n : goal.returns-then-dst-n
-returns-then-dst-n c = let b = c in copy_short _ _ _ b.bounds-interval.ensures _ _ _ _ b.in-Of.is c.words_needed-n.ensures c.if-dst-n.true
+returns-then-dst-n c =
+    let s : c.bounds.result ≡ Some c.in_ok-interval.interval = search rules in
+    copy_short _ _ _ c.bounds.ensures _ _ s c.words_needed-n.ensures c.if-dst-n.true
 
 pub returns : goal.returns
 returns c =
-    let d = c in
-    let b = d in
-    copy_done _ _ _ b.bounds-interval.ensures _ _ _ _ b.in-Of.is d.words_needed-n.ensures d.if-dst-n.false _ c.put.auto.dst c.put.ensures
+    let s : c.bounds.result ≡ Some c.in_ok-interval.interval = search rules in
+    rw c.copy_from_slice.ensures.after (copy_done _ _ _ c.bounds.ensures _ _ s c.words_needed-n.ensures c.if-src-n.false c.if-dst-n.false)

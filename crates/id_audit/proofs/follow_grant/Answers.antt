@@ -1,14 +1,17 @@
 -- `id_audit::follow_grant` meets its contract: by the answer of the operation that goes on from the claim.
-use mathlib.Core.Path.{ap}
+use Rattle.std.proofs.Common.{ap}
+use Rattle.std.proofs.lemmas.Result.{err_from_is_err_and}
 use Rattle.ids.specs.Runs.{Allocate}
 use Rattle.id_audit.proofs.Claimed.{outcome, grant_told, nothing_told}
 use Rattle.id_audit.proofs.follow_grant.Goals as goal
 
-pub returns-in-Id-answer : goal.returns-in-Id-answer
-returns-in-Id-answer c = grant_told c.args.mem.now c.take-answer.new.mem c.args.claim _ c.take-answer.result _ c.in-Id.is (ap outcome c.in-Id-answer.is) c.take-answer.ensures
+pub returns-in_err-take : goal.returns-in_err-take
+returns-in_err-take c =
+    let p = err_from_is_err_and c.from_residual.result c.from_residual.ensures.1 in
+    rw (p.1, p.2) (grant_told _ _ _ _ _ _ c.in-Ok.is (ap outcome c.in_err-take.was) c.take.ensures)
 
-pub returns-in-Refused-answer : goal.returns-in-Refused-answer
-returns-in-Refused-answer c = grant_told c.args.mem.now c.take-answer.new.mem c.args.claim _ c.take-answer.result _ c.in-Id.is (ap outcome c.in-Refused-answer.is) c.take-answer.ensures
+pub returns-in_ok-take : goal.returns-in_ok-take
+returns-in_ok-take c = grant_told _ _ _ _ _ _ c.in-Ok.is (ap outcome c.in_ok-take.was) c.take.ensures
 
-pub returns-in-Refused : goal.returns-in-Refused
-returns-in-Refused c = nothing_told c.args.mem.now Allocate c.args.claim _ c.in-Refused.is
+pub returns-in_default : goal.returns-in_default
+returns-in_default c = nothing_told _ Allocate _ _ c.in_default.is

@@ -1,16 +1,13 @@
 -- `id_audit::settle` meets its contract: the same answer is right; of another the steps give the verdict.
-use mathlib.Core.Path.{◌≡◌, subst}
-use Rattle.ranges.specs.Align.{Decides}
-use Rattle.id_audit.specs.declared.Taken.{Taken}
-use Rattle.id_audit.specs.Steps.{Settles}
-use Rattle.id_audit.proofs.Claimed.{verdict, settle_right, settle_wrong}
+use Rattle.id_audit.proofs.Claimed.{settle_right, settle_wrong}
+use Rattle.id_audit.proofs.Sames.{answer_same, answer_other}
 use Rattle.id_audit.proofs.settle.Goals as goal
 
-pub returns-then-same : goal.returns-then-same
-returns-then-same c = settle_right c.args.mem.now c.args.answer c.args.claim (subst (λ b. Decides b (c.args.answer ≡ c.args.claim)) c.if-same.true c.same.ensures)
+pub returns-then-eq : goal.returns-then-eq
+returns-then-eq c = settle_right _ _ _ (answer_same _ _ c.if-eq.ensures)
 
-pub returns-in-Done : goal.returns-in-Done
-returns-in-Done c = subst (λ (t : Taken). Settles c.args.mem.now c.args.answer c.args.claim (verdict c.args.answer t) c.follow_release-taken.new.mem) c.in-Done.is (settle_wrong c.args.mem.now c.undo.new.mem c.follow_release-taken.new.mem c.args.answer c.args.claim c.follow_release-taken.result (subst (λ b. Decides b (c.args.answer ≡ c.args.claim)) c.if-same.false c.same.ensures) c.undo.ensures c.follow_release-taken.ensures)
+pub returns-in-Ok : goal.returns-in-Ok
+returns-in-Ok c = settle_wrong _ _ _ _ _ _ _ c.in-Ok.is (answer_other _ _ c.if-eq.ensures) c.undo.ensures c.follow_release.ensures
 
-pub returns-in-Hindered : goal.returns-in-Hindered
-returns-in-Hindered c = subst (λ (t : Taken). Settles c.args.mem.now c.args.answer c.args.claim (verdict c.args.answer t) c.follow_release-taken.new.mem) c.in-Hindered.is (settle_wrong c.args.mem.now c.undo.new.mem c.follow_release-taken.new.mem c.args.answer c.args.claim c.follow_release-taken.result (subst (λ b. Decides b (c.args.answer ≡ c.args.claim)) c.if-same.false c.same.ensures) c.undo.ensures c.follow_release-taken.ensures)
+pub returns-in-Err : goal.returns-in-Err
+returns-in-Err c = settle_wrong _ _ _ _ _ _ _ c.in-Err.is (answer_other _ _ c.if-eq.ensures) c.undo.ensures c.follow_release.ensures

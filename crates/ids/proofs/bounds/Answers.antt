@@ -1,25 +1,17 @@
--- `ids::bounds` meets its contract: three words of the header of a block that holds a state, and that the ends are ids.
-use native.Mathlib.Omega.{arith}
+-- `ids::bounds` meets its contract: the header's words of a block that holds a state.
+use Rattle.std.proofs.Common.{◌≡◌, None, rules}
 use Rattle.ids.specs.Layout.{Holds}
-use Rattle.ids.proofs.Refusals.{none_held}
-use Rattle.ids.proofs.LastBits.{bit_header}
+use Rattle.ids.proofs.LastBits.{none_held, head_of, head_low, head_high, head_next}
 use Rattle.ids.proofs.bounds.Goals as goal
 
-pub returns-then-mem-lt4 : goal.returns-then-mem-lt4
+pub returns-in_err-h : goal.returns-in_err-h
 unfolding Holds
-returns-then-mem-lt4 c = λ s h. omega (arith, h.long)
-
-pub returns-in_default : goal.returns-in_default
-unfolding Holds
-returns-in_default c = λ s h.
-    none_held _ c.last_bit.result c.in_default.is c.last_bit.ensures s h
-
-pub overflow_cast-result : goal.overflow_cast-result
-overflow_cast-result c = let h = bit_header c.args.mem.now c.last_bit.result _ c.in-Bit.is c.last_bit.ensures in omega (arith, h.0.small, h.0.ordered)
-
-pub overflow_cast-result-2 : goal.overflow_cast-result-2
-overflow_cast-result-2 c = omega (arith, (bit_header c.args.mem.now c.last_bit.result _ c.in-Bit.is c.last_bit.ensures).0.small)
+returns-in_err-h c =
+    let e : c.from_residual.result ≡ None = search rules in
+    rw e (none_held _ _ c.in_err-h.was c.head.ensures)
 
 pub returns : goal.returns
 unfolding Holds
-returns c = λ s h. (h.low, h.high, h.next)
+returns c = λ s l.
+    let d = head_of _ _ _ c.in_ok-h.was c.head.ensures in
+    (head_low _ _ d s l, head_high _ _ d s l, head_next _ _ d s l)

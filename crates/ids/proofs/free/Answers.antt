@@ -1,43 +1,41 @@
 -- `ids::free` meets its contract: each refusal by the test that led there; the id's bit says whether it is granted (`bit_decides`), and
 -- changing it releases the id (`releasing`).
-use native.Mathlib.Omega.{arith}
-use mathlib.Core.Path.{refl, ap}
-use mathlib.Core.List.{List}
-use Prim.Native.Nat.{ℕ, ◌-◌}
-use Rattle.ids.specs.Layout.{Laid, Holds}
-use Rattle.bits.proofs.Levels.{put_tail}
-use mathlib.Core.Logic.{inl, inr}
+use Rattle.std.proofs.Common.{◌≡◌, ℕ, ◌-◌, List, Err, refl, ap, inl, inr, arith}
+use Rattle.std.proofs.lemmas.Grind.{common_steps}
+use Rattle.ranges.specs.declared.Error.{Error}
 use Rattle.ranges.proofs.Powers.{proved, refuted}
+use Rattle.bits.proofs.Levels.{put_tail}
 use Rattle.ids.specs.State.{Within}
+use Rattle.ids.specs.Layout.{Laid, Holds}
 use Rattle.ids.proofs.States.{bit_decides, releasing}
 use Rattle.ids.proofs.Tests.{not_true}
-use Rattle.ids.proofs.Refusals.{no_state, no_header}
-use Rattle.ids.proofs.LastBits.{bit_last}
+use Rattle.ids.proofs.Refusals.{no_state}
+use Rattle.ids.proofs.LastBits.{none_got, head_got, head_low, head_high, head_next, head_last}
 use Rattle.ids.proofs.free.Goals as goal
 
-pub returns-then-mem-lt4 : goal.returns-then-mem-lt4
-returns-then-mem-lt4 c = no_state (λ s h. omega (arith, h.long))
+pub returns-in_err-h : goal.returns-in_err-h
+returns-in_err-h c =
+    let e : c.from_residual.result ≡ Err Error.NoState = grind (arith, common_steps) in
+    rw e (no_state (none_got _ _ _ _ c.ok_or.ensures.ok_part c.in_err-h.was c.head.ensures))
 
-pub returns-in_default : goal.returns-in_default
-returns-in_default c =
-    no_header c.last_bit.result c.in_default.is c.last_bit.ensures
-
-pub returns-then-x-low : goal.returns-then-x-low
+pub returns-then-x-h : goal.returns-then-x-h
 unfolding Holds
-returns-then-x-low c = record { kept = refl; right = λ s h. (inl (refl, λ w. omega (arith, h.low, w.0)), h) }
-
-pub returns-then-high-x : goal.returns-then-high-x
-unfolding Holds
-returns-then-high-x c = record { kept = refl; right = λ s h. (inl (refl, λ w. omega (arith, h.high, w.1)), h) }
-
-pub returns-then-next-x : goal.returns-then-next-x
-unfolding Holds
-returns-then-next-x c =
+returns-then-x-h c =
+    let d = head_got _ _ _ _ c.ok_or.ensures.ok_part c.in_ok-h.was c.head.ensures in
     record {
       kept = refl;
-      right = λ s h. (
-        inr (inl (refl, (omega (arith, h.low), omega (arith, h.high)), omega (arith, h.next))),
-        h,
+      right = λ s l. (inl (refl, λ w. omega (arith, head_low _ _ d s l, head_high _ _ d s l, w.0, w.1)), l);
+    }
+
+pub returns-then-h-x-2 : goal.returns-then-h-x-2
+unfolding Holds
+returns-then-h-x-2 c =
+    let d = head_got _ _ _ _ c.ok_or.ensures.ok_part c.in_ok-h.was c.head.ensures in
+    record {
+      kept = refl;
+      right = λ s l. (
+        inr (inl (refl, (omega (arith, head_low _ _ d s l), omega (arith, head_high _ _ d s l)), omega (arith, head_next _ _ d s l))),
+        l,
       );
     }
 
@@ -45,17 +43,19 @@ pub returns-then-not-is_set : goal.returns-then-not-is_set
 unfolding Holds
 returns-then-not-is_set c =
     let a = c.args in
+    let d = head_got _ _ _ _ c.ok_or.ensures.ok_part c.in_ok-h.was c.head.ensures in
     record {
       kept = refl;
       right = λ s held.
-          let h : Laid _ s = held in
-          let w : Within s a.id = (omega (arith, h.low), omega (arith, h.high)) in (
+          let l : Laid _ s = held in
+          let low = head_low _ _ d s l in
+          let w : Within s a.id = (omega (arith, low), omega (arith, head_high _ _ d s l)) in (
             inr (inr (
               refl,
               w,
-              omega (arith, h.next),
+              omega (arith, head_next _ _ d s l),
               not_true _ (λ g. refuted c.is_set.result _ c.if-not-is_set.true
-                  (bit_decides a.mem.now s h c.is_set.result _ a.id h.low w c.is_set.ensures) (w, g)),
+                  (bit_decides a.mem.now s l c.is_set.result _ a.id low w c.is_set.ensures) (w, g)),
             )),
             held,
           );
@@ -67,16 +67,18 @@ returns c =
     let a = c.args in
     let ws : List ℕ = a.mem.now in
     let up : List ℕ = c.flip.new.mem in
+    let d = head_got _ _ _ _ c.ok_or.ensures.ok_part c.in_ok-h.was c.head.ensures in
     record {
       kept = tt;
       right = λ s held.
-          let h : Laid _ s = held in
-          let w : Within s a.id = (omega (arith, h.low), omega (arith, h.high)) in
+          let l : Laid _ s = held in
+          let low = head_low _ _ d s l in
+          let w : Within s a.id = (omega (arith, low), omega (arith, head_high _ _ d s l)) in
           let g = proved c.is_set.result _ c.if-not-is_set.false
-          (bit_decides ws s h c.is_set.result _ a.id h.low w c.is_set.ensures) in (
-            (refl, w, omega (arith, h.next), g.1),
+          (bit_decides ws s l c.is_set.result _ a.id low w c.is_set.ensures) in (
+            (refl, w, omega (arith, head_next _ _ d s l), g.1),
             rw (put_tail 4 ws up)
-                (releasing ws s h _ _ a.id up (bit_last c.args.mem.now c.last_bit.result _ c.in-Bit.is c.last_bit.ensures s h) w (ap (λ (x : ℕ). a.id - x) h.low) g.1
+                (releasing ws s l _ _ a.id up (head_last _ _ d s l) w (ap (λ (x : ℕ). a.id - x) low) g.1
                 c.flip.ensures),
           );
     }

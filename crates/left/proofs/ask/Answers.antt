@@ -1,33 +1,27 @@
--- `left::ask` meets its contract. The invariant: of each pool that the block holds, the addresses below a are counted, and a range starts at a.
--- The measure is what is left up to the last address.
-use Prim.Native.Nat.{◌-◌}
-use native.Mathlib.Omega.{arith}
-use borrow.Author.Rules.{rules}
-use Rattle.left.proofs.AskLaws.{Walks, ask_starts, ask_nowhere, ask_refused, ask_on, ask_known, ask_range}
+-- `left::ask` meets its contract: each end by the calls that led there, for every pool that the block holds.
+use Rattle.std.proofs.lemmas.Result.{err_from_is_err_and}
+use Rattle.std.proofs.Common.{arith}
+use Rattle.left.proofs.AskLaws.{ask_starts, ask_nowhere, ask_refused, ask_on, ask_known}
 use Rattle.left.proofs.ask.Goals as goal
 
-pub loop-end-init : goal.loop-end-init
-loop-end-init c = ask_starts _ _ c.base-a.ensures
+pub loop-stands-init : goal.loop-stands-init
+loop-stands-init c = ask_starts _ _ c.base-a.ensures
 
 pub returns-in_default : goal.returns-in_default
-returns-in_default c = ask_nowhere _ _ _ _ c.loop-end.invariant _ c.at-stands.ensures c.in_default.not-In
+returns-in_default c = ask_nowhere _ _ _ _ c.loop-stands.invariant _ c.in_default.ensures
 
-pub returns-in_default-passed : goal.returns-in_default-passed
-returns-in_default-passed c =
+pub returns-in_err-left : goal.returns-in_err-left
+returns-in_err-left c =
     let b = c in
-    ask_refused _ _ _ _ b.loop-end.invariant _ b.at-stands.ensures _ _ _ b.in-In.is _ c.pass-passed.ensures _ c.in_default-passed.is
+    let p = err_from_is_err_and c.from_residual.result c.from_residual.ensures.1 in
+    rw (p.1, p.2) (ask_refused _ _ _ _ b.loop-stands.invariant _ b.in-Ok.ensures _ c.in_err-left.ensures)
 
-pub returns-then-last-end : goal.returns-then-last-end
-returns-then-last-end c =
+pub returns-then-last-stands : goal.returns-then-last-stands
+returns-then-last-stands c =
     let b = c in
-    ask_known _ _ _ _ b.loop-end.invariant _ b.at-stands.ensures _ _ _ b.in-In.is _ c.pass-passed.ensures _ _ c.in-Known.is _ b.end-last.ensures (omega arith)
+    ask_known _ _ _ _ b.loop-stands.invariant _ b.in-Ok.ensures _ c.in_ok-left.ensures _ b.end-last.ensures (omega arith)
 
-pub loop-end-smaller : goal.loop-end-smaller
-loop-end-smaller c =
+pub loop-stands-preserved : goal.loop-stands-preserved
+loop-stands-preserved c =
     let b = c in
-    omega (arith, ask_range _ _ _ _ b.loop-end.invariant _ b.at-stands.ensures _ _ _ b.in-In.is _ c.pass-passed.ensures _ _ c.in-Known.is)
-
-pub loop-end-preserved : goal.loop-end-preserved
-loop-end-preserved c =
-    let b = c in
-    ask_on _ _ _ _ b.loop-end.invariant _ b.at-stands.ensures _ _ _ b.in-In.is _ c.pass-passed.ensures _ _ c.in-Known.is _ b.end-last.ensures (omega arith)
+    ask_on _ _ _ _ b.loop-stands.invariant _ b.in-Ok.ensures _ c.in_ok-left.ensures _ b.end-last.ensures (omega arith)

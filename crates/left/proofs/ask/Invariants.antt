@@ -1,13 +1,11 @@
 -- `left::ask` meets its contract. The invariant: of each pool that the block holds, the addresses below a are counted, and a range starts at a.
 -- The measure is what is left up to the last address.
-use Prim.Native.Nat.{◌-◌}
-use native.Mathlib.Omega.{arith}
-use borrow.Author.Rules.{rules}
-use Rattle.left.proofs.AskLaws.{Walks, ask_starts, ask_nowhere, ask_refused, ask_on, ask_known, ask_range}
+use Rattle.std.proofs.Common.{◌-◌}
+use Rattle.left.proofs.AskLaws.{Walks}
 use Rattle.left.proofs.ask.Given as goal
 
-abbrev pub invariant-loop-end : goal.invariant-loop-end
-invariant-loop-end l = Walks l.mem l.a l.free l.largest
+abbrev pub invariant-loop-stands : goal.invariant-loop-stands
+invariant-loop-stands l = Walks l.mem l.a l.left.free l.left.largest
 
-abbrev pub decreases-loop-end : goal.decreases-loop-end
-decreases-loop-end l = l.last - l.a
+abbrev pub decreases-loop-stands : goal.decreases-loop-stands
+decreases-loop-stands l = l.last - l.a

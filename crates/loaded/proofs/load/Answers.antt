@@ -1,18 +1,23 @@
 -- `loaded::load` meets its contract: the frame, then the tests, then the pool.
-use Rattle.std.proofs.Common.{rules}
-use Rattle.loaded.proofs.LoadLaws.{tests_fine, tests_wrong, opens_good, opens_bad, wrong_frame, wrong_words}
+use Rattle.frame.proofs.Passed.{handed}
+use Rattle.frame.specs.Frame.{Opens}
+use Rattle.loaded.specs.Contract.{Loads}
+use Rattle.loaded.proofs.LoadLaws.{tests_fine, wrong_frame, wrong_words}
 use Rattle.loaded.proofs.load.Goals as goal
 
-pub examine-found-requires : goal.examine-found-requires
-examine-found-requires c = opens_good _ _ _ _ _ _ _ c.read-opened.ensures c.in-Good.is
+pub returns-in_err-opened : goal.returns-in_err-opened
+returns-in_err-opened c = let m = c.args.mem.now in handed (λ r. Loads c.args.bs.now m r m) _ _ c.from_residual.ensures.1 (wrong_frame _ _ _ c.in_err-opened.ensures)
 
-pub returns-in-Wrong : goal.returns-in-Wrong
-returns-in-Wrong c =
-    wrong_words _ _ _ _ _ _ _ _ (opens_good _ _ _ _ _ _ _ c.read-opened.ensures c.in-Good.is) (tests_wrong _ _ _ _ _ c.examine-found.ensures c.in-Wrong.is)
+pub examine-requires : goal.examine-requires
+unfolding Opens
+examine-requires c = c.in_ok-opened.ensures
+
+pub returns-in_err-examine : goal.returns-in_err-examine
+unfolding Opens
+returns-in_err-examine c =
+    let m = c.args.mem.now in
+    handed (λ r. Loads c.args.bs.now m r m) _ _ c.from_residual-in_err-examine.ensures.1 (wrong_words _ _ _ _ _ _ _ c.in_ok-opened.ensures c.in_err-examine.ensures)
 
 pub remake-requires : goal.remake-requires
-remake-requires c =
-    record { frame = opens_good _ _ _ _ _ _ _ c.read-opened.ensures c.in-Good.is; sensible = tests_fine _ _ _ c.examine-found.ensures c.in_default.is }
-
-pub returns-in-Bad : goal.returns-in-Bad
-returns-in-Bad c = wrong_frame _ _ _ _ (opens_bad _ _ _ _ _ c.read-opened.ensures c.in-Bad.is)
+unfolding Opens
+remake-requires c = record { frame = c.in_ok-opened.ensures; sensible = tests_fine _ _ c.in_ok-examine.ensures }

@@ -1,5 +1,6 @@
 -- `melting::inside` meets its contract.
 use Prim.Native.Nat.{ℕ, ◌+◌, ◌-◌, ◌≤◌, ◌<◌}
+use native.Mathlib.Omega.{arith}
 use mathlib.Core.Path.{◌≡◌, sym, ◌∙◌}
 use mathlib.Core.List.{List, [], ◌∷◌}
 use mathlib.Core.Bool.{Bool, true, false, cond}
@@ -65,7 +66,7 @@ raise-requires c =
 pub returns-then-before-ne0 : goal.returns-then-before-ne0
 returns-then-before-ne0 c =
     let k = (goal.at.returns-then-before-ne0 c).After-tag_of-behind in
-    done k true false c.put.new.mem (both k c.shrink.new.mem c.put.new.mem c.shrink.ensures c.put.ensures) c.raise.new.mem c.last_of-e.result c.reach.result c.if-behind-eq0.true c.if-before-ne0.true c.last_of-e.ensures c.reach.ensures c.raise.ensures
+    done k true false c.put.new.mem (both k c.shrink.new.mem c.put.new.mem c.shrink.ensures c.put.ensures) c.raise.new.mem c.last_of-e.result c.saturating_sub.result c.if-behind-eq0.true c.if-before-ne0.true c.last_of-e.ensures (omega (arith, c.saturating_sub.ensures)) c.raise.ensures
 
 pub raise-requires-then-behind-eq0 : goal.raise-requires-then-behind-eq0
 raise-requires-then-behind-eq0 c =
@@ -73,7 +74,7 @@ raise-requires-then-behind-eq0 c =
 
 pub returns-then-behind-eq0 : goal.returns-then-behind-eq0
 returns-then-behind-eq0 c =
-    done (goal.at.returns-then-behind-eq0 c).After-tag_of-behind true true c.shrink-then-behind-eq0.new.mem c.shrink-then-behind-eq0.ensures c.raise-then-behind-eq0.new.mem c.last_of-e.result c.reach-then-behind-eq0.result c.if-behind-eq0.true c.if-before-ne0.false c.last_of-e.ensures c.reach-then-behind-eq0.ensures c.raise-then-behind-eq0.ensures
+    done (goal.at.returns-then-behind-eq0 c).After-tag_of-behind true true c.shrink-then-behind-eq0.new.mem c.shrink-then-behind-eq0.ensures c.raise-then-behind-eq0.new.mem c.last_of-e.result c.saturating_sub-then-behind-eq0.result c.if-behind-eq0.true c.if-before-ne0.false c.last_of-e.ensures (omega (arith, c.saturating_sub-then-behind-eq0.ensures)) c.raise-then-behind-eq0.ensures
 
 pub raise-requires-then-before-ne0-2 : goal.raise-requires-then-before-ne0-2
 raise-requires-then-before-ne0-2 c =
@@ -81,7 +82,7 @@ raise-requires-then-before-ne0-2 c =
 
 pub returns-then-before-ne0-2 : goal.returns-then-before-ne0-2
 returns-then-before-ne0-2 c =
-    done (goal.at.returns-then-before-ne0-2 c).After-tag_of-behind false false c.put-then-before-ne0-2.new.mem c.put-then-before-ne0-2.ensures c.raise-then-before-ne0-2.new.mem c.last_of-e-2.result c.reach-then-before-ne0-2.result c.if-behind-eq0.false c.if-before-ne0-2.true c.last_of-e-2.ensures c.reach-then-before-ne0-2.ensures c.raise-then-before-ne0-2.ensures
+    done (goal.at.returns-then-before-ne0-2 c).After-tag_of-behind false false c.put-then-before-ne0-2.new.mem c.put-then-before-ne0-2.ensures c.raise-then-before-ne0-2.new.mem c.last_of-e-2.result c.saturating_sub-then-before-ne0-2.result c.if-behind-eq0.false c.if-before-ne0-2.true c.last_of-e-2.ensures (omega (arith, c.saturating_sub-then-before-ne0-2.ensures)) c.raise-then-before-ne0-2.ensures
 
 pub raise-requires-2 : goal.raise-requires-2
 raise-requires-2 c =
@@ -89,4 +90,4 @@ raise-requires-2 c =
 
 pub returns : goal.returns
 returns c =
-    done (goal.at.returns c).After-tag_of-behind false true c.shrink-2.new.mem c.shrink-2.ensures c.raise-2.new.mem c.last_of-e-2.result c.reach-2.result c.if-behind-eq0.false c.if-before-ne0-2.false c.last_of-e-2.ensures c.reach-2.ensures c.raise-2.ensures
+    done (goal.at.returns c).After-tag_of-behind false true c.shrink-2.new.mem c.shrink-2.ensures c.raise-2.new.mem c.last_of-e-2.result c.saturating_sub-2.result c.if-behind-eq0.false c.if-before-ne0-2.false c.last_of-e-2.ensures (omega (arith, c.saturating_sub-2.ensures)) c.raise-2.ensures

@@ -4,9 +4,6 @@ use mathlib.Core.Path.{sym, ◌∙◌}
 use Rattle.melting.proofs.Gones.{melt_done}
 use Rattle.melting.proofs.melt.Goals as goal
 
-pub returns-then-i-n : goal.returns-then-i-n
-returns-then-i-n c = c.inside.ensures
-
 pub give-requires : goal.give-requires
 give-requires c = let st = c in let a = st.args in let m = a.mem.now in let e = c.absorb-hi.ensures in (e.sound, st.requires.1 ∙ sym e.blocks, e.from, omega (arith, e.to, st.requires.1), e.tile)
 

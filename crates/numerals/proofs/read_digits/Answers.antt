@@ -1,28 +1,15 @@
--- `numerals::read_digits` meets its contract: the sum is that of a number, and what it and the bytes that are left mean is what all of them mean. The measure is what is left.
+-- `numerals::read_digits` meets its contract: the sum is that of a number, and what it and the bytes that are left mean is what all of them mean.
+use mathlib.Core.Path.{◌∙◌}
 use native.Mathlib.Omega.{arith}
-use Rattle.numerals.proofs.Reading.{reading_none, reading_stop, reading_start, reading_turn, reading_stopped, reading_fits, reading_large, reading_not}
+use Rattle.numerals.proofs.Reading.{reading_skip, reading_digit}
+use Rattle.numerals.proofs.read_digits.Goals.{then-s-i-ne95+in_ok-d, else-s-i-ne95}
 use Rattle.numerals.proofs.read_digits.Goals as goal
 
-pub returns-then-s-from : goal.returns-then-s-from
-returns-then-s-from c = reading_none _ _ _ (omega arith)
-
-pub returns-then-base-d : goal.returns-then-base-d
-returns-then-base-d c = reading_stop _ _ _ _ (omega arith) c.digit-d.ensures c.if-base-d.true
-
-pub loop-i-init : goal.loop-i-init
-loop-i-init c = reading_start _ _ _ _ (omega arith) c.digit-d.ensures c.if-base-d.false (omega arith)
-
-pub returns-in-Stopped : goal.returns-in-Stopped
-returns-in-Stopped c = reading_stopped _ _ _ _ _ (omega arith) (omega arith) c.loop-i.invariant _ c.step-next.ensures c.in-Stopped.is
-
 pub loop-i-preserved : goal.loop-i-preserved
-loop-i-preserved c = reading_turn _ _ _ _ _ (omega arith) (omega arith) c.loop-i.invariant _ c.step-next.ensures c.in_default.not-Stopped
-
-pub returns-in-Fits : goal.returns-in-Fits
-returns-in-Fits c = reading_fits _ _ _ _ _ c.loop-i-test.false c.loop-i.invariant _ c.in-Fits.is
-
-pub returns-in-Large : goal.returns-in-Large
-returns-in-Large c = reading_large _ _ _ _ _ c.loop-i-test.false c.loop-i.invariant c.in-Large.is
-
-pub returns-in-Stopped-sum : goal.returns-in-Stopped-sum
-returns-in-Stopped-sum c = reading_not _ _ _ _ _ c.loop-i-test.false c.loop-i.invariant c.in-Stopped-sum.is
+loop-i-preserved c =
+    let a = c.args in
+    let l = c.loop-i in
+    elim c.if-s-i-ne95.branch [
+      | then-s-i-ne95+in_ok-d w ↦ reading_digit a.s.now a.from a.base l.sum l.i c.loop-i-test.true l.invariant w.in_ok-d.d w.digit-then-s-i-ne95.result c.if-s-i-ne95.sum w.if-s-i-ne95.true (omega arith) w.in_ok-d.ensures.ok_part w.digit-then-s-i-ne95.ensures (w.sum-is ∙ w.with_digit-sum.ensures)
+      | else-s-i-ne95 w ↦ reading_skip a.s.now a.from a.base l.sum l.i c.loop-i-test.true l.invariant c.if-s-i-ne95.sum w.if-s-i-ne95.false w.sum-is
+    ]

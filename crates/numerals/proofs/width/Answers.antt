@@ -7,9 +7,6 @@ use Rattle.numerals.proofs.width.Goals as goal
 pub loop-rest-init : goal.loop-rest-init
 loop-rest-init c = counting_start _ _ (omega arith) (omega arith)
 
-pub overflow_add-k : goal.overflow_add-k
-overflow_add-k c = record { fits = omega (arith, c.loop-rest.invariant.most) }
-
 pub loop-rest-smaller : goal.loop-rest-smaller
 loop-rest-smaller c = div-lt_self (omega arith) (omega arith)
 

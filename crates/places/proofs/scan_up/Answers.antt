@@ -7,23 +7,14 @@ use Rattle.places.proofs.scan_up.Goals as goal
 pub returns-then-tags-n : goal.returns-then-tags-n
 returns-then-tags-n c = let a = c.args in up_uneven a.starts.now a.tags.now a.last a.more a.mask (λ e. c.if-tags-n.true (sym e))
 
-pub skip_up-i-requires : goal.skip_up-i-requires
-skip_up-i-requires c = (sym c.if-tags-n.false, omega arith)
-
 pub loop-i-init : goal.loop-i-init
-loop-i-init c = let a = c.args in let s = c.skip_up-i.ensures in (s.1, sym c.if-tags-n.false, below_more a.starts.now a.tags.now a.more a.last a.mask 0 _ (none_below_start a.starts.now a.tags.now a.last a.more a.mask) s.2)
+loop-i-init c = let a = c.args in let s = c.skip_up-i.ensures in (s.1, below_more a.starts.now a.tags.now a.more a.last a.mask 0 _ (none_below_start a.starts.now a.tags.now a.last a.more a.mask) s.2)
 
-pub returns-in-At : goal.returns-in-At
-returns-in-At c = let a = c.args in let l = c.loop-i in up_found a.starts.now a.tags.now a.last a.more a.mask l.i (omega arith) l.invariant.2 c.low_at-f.ensures c.in-At.is
-
-pub skip_up-i-requires-in-loop-i : goal.skip_up-i-requires-in-loop-i
-skip_up-i-requires-in-loop-i c = let l = c.loop-i in (l.invariant.1, omega arith)
-
-pub loop-i-smaller : goal.loop-i-smaller
-loop-i-smaller c = let s = c.skip_up-i-in-loop-i.ensures in omega (arith, s.0)
+pub returns-in-Some : goal.returns-in-Some
+returns-in-Some c = let a = c.args in let l = c.loop-i in up_found a.starts.now a.tags.now a.last a.more a.mask l.i (omega arith) l.invariant.1 c.low_at.ensures c.in-Some.is
 
 pub loop-i-preserved : goal.loop-i-preserved
-loop-i-preserved c = let a = c.args in let l = c.loop-i in let s = c.skip_up-i-in-loop-i.ensures in (s.1, l.invariant.1, below_more a.starts.now a.tags.now a.more a.last a.mask (l.i + 1) _ (none_below_next a.starts.now a.tags.now a.last a.more a.mask l.i l.invariant.2 c.low_at-f.ensures c.in_default.is) s.2)
+loop-i-preserved c = let a = c.args in let l = c.loop-i in let s = c.skip_up-i-in-loop-i.ensures in (s.1, below_more a.starts.now a.tags.now a.more a.last a.mask (l.i + 1) _ (none_below_next a.starts.now a.tags.now a.last a.more a.mask l.i l.invariant.1 c.low_at.ensures c.in_default.is) s.2)
 
 pub returns : goal.returns
-returns c = let a = c.args in let l = c.loop-i in up_none a.starts.now a.tags.now a.last a.more a.mask l.i (omega arith) l.invariant.2
+returns c = let a = c.args in let l = c.loop-i in up_none a.starts.now a.tags.now a.last a.more a.mask l.i (omega arith) l.invariant.1

@@ -1,29 +1,26 @@
--- `pool_audit::follow` meets its contract: by the answer of the operation that goes on from the claim.
-use borrow.Author.Rules.{rules}
-use mathlib.Core.Path.{◌≡◌, refl, sym, ap, subst, ◌∙◌}
+-- `pool_audit::follow` meets its contract: by what the operation that goes on from the claim returned.
+use Rattle.std.proofs.Common.{Ok, sym, ap, subst}
+use Rattle.std.proofs.lemmas.Result.{err_from_is_err_and}
 use Rattle.addresses.specs.declared.Answer.{Answer}
-use Rattle.pool_audit.specs.declared.Taken.TheVariants.{Done, Hindered}
 use Rattle.pool_audit.specs.Steps.{Follows}
 use Rattle.pool_audit.proofs.Claimed.{outcome, grant_told, release_told, follow_refusal}
 use Rattle.pool_audit.proofs.follow.Goals as goal
 
-pub returns-in-Granted-answer : goal.returns-in-Granted-answer
-returns-in-Granted-answer c = grant_told c.args.mem.now c.grant_just-answer.new.mem c.args.claim _ c.grant_just-answer.result _ c.in-Granted.is (ap outcome c.in-Granted-answer.is) c.grant_just-answer.ensures
+pub returns-in_err-grant_just-in-Granted : goal.returns-in_err-grant_just-in-Granted
+returns-in_err-grant_just-in-Granted c =
+    let p = err_from_is_err_and c.from_residual.result c.from_residual.ensures.1 in
+    rw (p.1, p.2) (grant_told _ _ _ _ _ _ c.in-Granted.is (ap outcome c.in_err-grant_just-in-Granted.was) c.grant_just.ensures)
 
-pub returns-in-Freed-answer : goal.returns-in-Freed-answer
-returns-in-Freed-answer c = grant_told c.args.mem.now c.grant_just-answer.new.mem c.args.claim _ c.grant_just-answer.result _ c.in-Granted.is (ap outcome c.in-Freed-answer.is) c.grant_just-answer.ensures
+pub returns-in_ok-grant_just-in-Granted : goal.returns-in_ok-grant_just-in-Granted
+returns-in_ok-grant_just-in-Granted c = grant_told _ _ _ _ _ _ c.in-Granted.is (ap outcome c.in_ok-grant_just-in-Granted.was) c.grant_just.ensures
 
-pub returns-in-Refused-answer : goal.returns-in-Refused-answer
-returns-in-Refused-answer c = grant_told c.args.mem.now c.grant_just-answer.new.mem c.args.claim _ c.grant_just-answer.result _ c.in-Granted.is (ap outcome c.in-Refused-answer.is) c.grant_just-answer.ensures
+pub returns-in_err-free-in-Freed : goal.returns-in_err-free-in-Freed
+returns-in_err-free-in-Freed c =
+    let p = err_from_is_err_and c.from_residual-in_err-free-in-Freed.result c.from_residual-in_err-free-in-Freed.ensures.1 in
+    rw (p.1, p.2) (release_told _ _ _ _ _ _ c.in-Freed.is (ap outcome c.in_err-free-in-Freed.was) c.free.ensures)
 
-pub returns-in-Granted-answer-2 : goal.returns-in-Granted-answer-2
-returns-in-Granted-answer-2 c = release_told c.args.mem.now c.free-answer.new.mem c.args.claim _ c.free-answer.result _ c.in-Freed.is (ap outcome c.in-Granted-answer-2.is) c.free-answer.ensures
-
-pub returns-in-Freed-answer-2 : goal.returns-in-Freed-answer-2
-returns-in-Freed-answer-2 c = release_told c.args.mem.now c.free-answer.new.mem c.args.claim _ c.free-answer.result _ c.in-Freed.is (ap outcome c.in-Freed-answer-2.is) c.free-answer.ensures
-
-pub returns-in-Refused-answer-2 : goal.returns-in-Refused-answer-2
-returns-in-Refused-answer-2 c = release_told c.args.mem.now c.free-answer.new.mem c.args.claim _ c.free-answer.result _ c.in-Freed.is (ap outcome c.in-Refused-answer-2.is) c.free-answer.ensures
+pub returns-in_ok-free-in-Freed : goal.returns-in_ok-free-in-Freed
+returns-in_ok-free-in-Freed c = release_told _ _ _ _ _ _ c.in-Freed.is (ap outcome c.in_ok-free-in-Freed.was) c.free.ensures
 
 pub returns-in-Refused : goal.returns-in-Refused
-returns-in-Refused c = subst (λ (x : Answer). Follows c.args.mem.now x Done c.args.mem.now) (sym c.in-Refused.is) (follow_refusal c.args.mem.now _)
+returns-in-Refused c = subst (λ (x : Answer). Follows c.args.mem.now x (Ok tt) c.args.mem.now) (sym c.in-Refused.is) (follow_refusal c.args.mem.now _)

@@ -1,17 +1,14 @@
 -- `pool_audit::settle` meets its contract: the same answer is right; of another the steps give the verdict.
-use borrow.Author.Rules.{rules}
-use mathlib.Core.Path.{◌≡◌, refl, sym, ap, subst, ◌∙◌}
-use Rattle.ranges.specs.Align.{Decides}
-use Rattle.pool_audit.specs.declared.Taken.{Taken}
-use Rattle.pool_audit.specs.Steps.{Settles}
-use Rattle.pool_audit.proofs.Claimed.{verdict, settle_right, settle_wrong}
+use Rattle.std.proofs.Common.{Ok, Err}
+use Rattle.addresses.proofs.Equalities.{answer_same, answer_other}
+use Rattle.pool_audit.proofs.Claimed.{settle_right, settle_wrong}
 use Rattle.pool_audit.proofs.settle.Goals as goal
 
-pub returns-then-same : goal.returns-then-same
-returns-then-same c = settle_right c.args.mem.now c.args.answer c.args.claim (subst (λ b. Decides b (c.args.answer ≡ c.args.claim)) c.if-same.true c.same.ensures)
+pub returns-then-eq : goal.returns-then-eq
+returns-then-eq c = settle_right _ _ _ (answer_same _ _ c.if-eq.ensures)
 
-pub returns-in-Done : goal.returns-in-Done
-returns-in-Done c = subst (λ (t : Taken). Settles c.args.mem.now c.args.answer c.args.claim (verdict c.args.answer t) c.follow-taken.new.mem) c.in-Done.is (settle_wrong c.args.mem.now c.undo.new.mem c.follow-taken.new.mem c.args.answer c.args.claim c.follow-taken.result (subst (λ b. Decides b (c.args.answer ≡ c.args.claim)) c.if-same.false c.same.ensures) c.undo.ensures c.follow-taken.ensures)
+pub returns-in-Ok : goal.returns-in-Ok
+returns-in-Ok c = settle_wrong c.args.mem.now c.undo.new.mem c.follow.new.mem c.args.answer c.args.claim (Ok tt) (answer_other _ _ c.if-eq.ensures) c.undo.ensures c.in-Ok.ensures
 
-pub returns-in-Hindered : goal.returns-in-Hindered
-returns-in-Hindered c = subst (λ (t : Taken). Settles c.args.mem.now c.args.answer c.args.claim (verdict c.args.answer t) c.follow-taken.new.mem) c.in-Hindered.is (settle_wrong c.args.mem.now c.undo.new.mem c.follow-taken.new.mem c.args.answer c.args.claim c.follow-taken.result (subst (λ b. Decides b (c.args.answer ≡ c.args.claim)) c.if-same.false c.same.ensures) c.undo.ensures c.follow-taken.ensures)
+pub returns-in-Err : goal.returns-in-Err
+returns-in-Err c = settle_wrong c.args.mem.now c.undo.new.mem c.follow.new.mem c.args.answer c.args.claim (Err c.in-Err.e) (answer_other _ _ c.if-eq.ensures) c.undo.ensures c.in-Err.ensures

@@ -1,5 +1,7 @@
 -- `ranges::align_up` meets its contract: a + (k - 1), rounded down by the mask (`mask_mod`, `up`). Where that sum passes 64 bits no multiple fits (`beyond`).
-use Rattle.std.proofs.Common.{◌+◌, ◌-◌, refl, inl, inr, arith}
+use Rattle.std.proofs.Common.{◌≡◌, ◌+◌, ◌-◌, ◌^◌, ◌≤◌, None, Err, refl, inl, inr, arith, rules}
+use Rattle.std.proofs.lemmas.Grind.{common_steps}
+use Rattle.ranges.specs.declared.Error.{Error}
 use lib.Bits.{and_le_l}
 use Rattle.ranges.specs.Align.{PowerOfTwo}
 use Rattle.ranges.proofs.Powers.{proved, refuted, power_pos, mask_mod, up, beyond}
@@ -16,10 +18,13 @@ returns-then-not-is_power_of_two c = inl (refl, refuted c.is_power_of_two.result
 pub overflow_sub-m : goal.overflow_sub-m
 overflow_sub-m c = power_pos _ (power (goal.at.overflow_sub-m c).Else-not-is_power_of_two)
 
-pub returns-then-m-a : goal.returns-then-m-a
-returns-then-m-a c =
-    let a = c.args in
-    inr (refl, power (goal.at.returns-then-m-a c).Else-not-is_power_of_two, beyond a.a a.k (power (goal.at.returns-then-m-a c).Else-not-is_power_of_two) c.ranges.k.fits (omega (arith, power_pos _ (power (goal.at.returns-then-m-a c).Else-not-is_power_of_two))))
+pub returns-in_err-t : goal.returns-in_err-t
+returns-in_err-t c =
+    let p = power (goal.at.returns-in_err-t c).Else-not-is_power_of_two in
+    let n : c.checked_add.result ≡ None = search rules in
+    let e : c.from_residual.result ≡ Err Error.Overflow = grind (arith, common_steps) in
+    let big : 2 ^ 64 ≤ c.args.a + (c.args.k - 1) = grind (arith, common_steps) in
+    rw e (inr (refl, p, beyond c.args.a c.args.k p c.ranges.k.fits (omega (arith, power_pos _ p))))
 
 pub overflow_sub-result : goal.overflow_sub-result
 overflow_sub-result c = and_le_l _ _
@@ -27,4 +32,6 @@ overflow_sub-result c = and_le_l _ _
 pub returns : goal.returns
 returns c =
     let a = c.args in
-    (power (goal.at.returns c).Else-not-is_power_of_two, rw (mask_mod (a.a + (a.k - 1)) a.k (power (goal.at.returns c).Else-not-is_power_of_two)) (up a.a a.k (power_pos _ (power (goal.at.returns c).Else-not-is_power_of_two))))
+    let p = power (goal.at.returns c).Else-not-is_power_of_two in
+    let e : c.in_ok-t.t ≡ a.a + (a.k - 1) = grind (arith, common_steps) in
+    (p, rw (e, mask_mod (a.a + (a.k - 1)) a.k p) (up a.a a.k (power_pos _ p)))

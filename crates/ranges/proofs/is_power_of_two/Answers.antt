@@ -1,9 +1,6 @@
--- `ranges::is_power_of_two` meets its contract: one digit set, and only then (`ones_power`, `power_ones`).
-use Rattle.ranges.proofs.Powers.{ones_power, power_ones}
+-- `ranges::is_power_of_two` meets its contract: one digit set, and only then (`power_decides`).
+use Rattle.ranges.proofs.Powers.{power_decides}
 use Rattle.ranges.proofs.is_power_of_two.Goals as goal
 
-pub returns-then-x-eq1 : goal.returns-then-x-eq1
-returns-then-x-eq1 c = ones_power c.args.x c.if-x-eq1.true
-
-pub returns-else-x-eq1 : goal.returns-else-x-eq1
-returns-else-x-eq1 c = λ p. c.if-x-eq1.false (power_ones c.args.x p)
+pub returns : goal.returns
+returns c = rw c.is_power_of_two.ensures (power_decides c.args.x)

@@ -1,7 +1,5 @@
--- `saved_ids::list` meets its contract. The invariant: the free ones among those passed are written (`Listed`). The measure is how many are left.
-use Prim.Native.Nat.{ℕ, ◌+◌, ◌-◌, ◌*◌, ◌≤◌}
-use mathlib.Core.Path.{◌≡◌}
-use lib.ListN.{length, get_or}
+-- `saved_ids::list` meets its contract. The invariant: the free ones among those passed are written (`Listed`).
+use Rattle.std.proofs.Common.{ℕ, ◌+◌, ◌*◌, ◌≤◌, ◌≡◌, get_or}
 use Rattle.saved_ids.proofs.WriteLaws.{Listed}
 use Rattle.saved_ids.specs.Format.{unheld}
 use Rattle.saved_ids.specs.Steps.{Spans}
@@ -10,7 +8,5 @@ use Rattle.ids.specs.Held.{Holds}
 use Rattle.saved_ids.proofs.list.Given as goal
 
 abbrev pub invariant-loop-i : goal.invariant-loop-i
-invariant-loop-i l = (l.i ≤ l.n) × (length l.bs ≡ length l.initial.bs) × ((x : ℕ) → 64 + 8 * l.k ≤ x → get_or l.bs x 0 ≡ get_or l.initial.bs x 0) × ((s : State) → Holds l.mem s → Spans s l.low l.n → l.k ≡ unheld s.granted l.low l.n → Listed s l.i l.j l.bs)
-
-abbrev pub decreases-loop-i : goal.decreases-loop-i
-decreases-loop-i l = l.n - l.i
+invariant-loop-i l = ((x : ℕ) → 64 + 8 * l.k ≤ x → get_or l.bs x 0 ≡ get_or l.initial.bs x 0)
+    × ((s : State) → Holds l.mem s → Spans s l.low l.n → l.k ≡ unheld s.granted l.low l.n → Listed s l.i l.j l.bs)

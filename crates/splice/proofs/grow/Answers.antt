@@ -2,20 +2,10 @@
 use native.Mathlib.Omega.{arith}
 use Prim.Native.Nat.{◌+◌, ◌*◌}
 use mathlib.Core.Path.{refl}
-use lib.Seq.{lt-length-set}
 use Rattle.blocks.specs.Blocks.{size_at}
 use Rattle.splice.specs.Splice.{Widened}
 use Rattle.splice.proofs.Cells.{grow_grown}
 use Rattle.splice.proofs.grow.Goals as goal
-
-pub widen-requires : goal.widen-requires
-widen-requires c = let st = c in let e = c.size_of-n.ensures in (omega (arith, e), omega (arith, e), omega arith)
-
-pub bounds-mem-b : goal.bounds-mem-b
-bounds-mem-b c = let e = c.widen.ensures.len in omega (arith, e)
-
-pub bounds-mem-1-2 : goal.bounds-mem-1-2
-bounds-mem-1-2 c = let a = c.args in lt-length-set c.widen.new.mem (136 + a.b * 129) (c.size_of-n.result + a.by) (omega (arith, c.widen.ensures.len))
 
 pub returns : goal.returns
 returns c = let st = c in let a = st.args in let e = c.size_of-n.ensures in

@@ -5,14 +5,8 @@ use Rattle.spread.proofs.Bounds.{trim_all}
 use Rattle.blocks.specs.Blocks.{blocks_of}
 use Rattle.spread.proofs.spread.Goals as goal
 
-pub returns-then-n-eq0 : goal.returns-then-n-eq0
-returns-then-n-eq0 c = λ p. absurd (omega arith)
-
-pub returns-then-all-n : goal.returns-then-all-n
-returns-then-all-n c = λ p e. absurd (c.if-all-n.true (c.total-all.ensures ∙ e))
-
 pub deal-requires : goal.deal-requires
-deal-requires c = let st = c in (st.requires, refl, refl, refl, sym c.total-all.ensures ∙ c.if-all-n.false, omega arith)
+deal-requires c = let st = c in (st.requires, refl, refl, refl, sym c.total.ensures ∙ c.if-total-n.false, omega arith)
 
 pub trim-requires : goal.trim-requires
 trim-requires c = let s = c.deal.ensures.settled.sound in (s, refl, omega arith, omega arith)

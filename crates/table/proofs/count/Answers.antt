@@ -1,18 +1,9 @@
 -- `table::count` meets its contract.
-use native.Mathlib.Omega.{arith}
-use mathlib.Core.Path.{refl}
+use mathlib.Core.Path.{◌∙◌}
 use lib.ListN.{length}
 use Rattle.table.proofs.Lying.{count_row}
-use Rattle.table.proofs.Cuts.{good_head}
-use Rattle.table.proofs.Asking.{says, says_nothing}
-use borrow.Author.Rules.{rules}
+use Rattle.table.proofs.Asking.{says}
 use Rattle.table.proofs.count.Goals as goal
 
-pub returns-in_default : goal.returns-in_default
-returns-in_default c = let st = c in let a = st.args in let m = a.mem.now in says_nothing m (λ t. length t.row) 0 c.header-h.ensures c.in_default.is
-
-pub bounds-mem-1 : goal.bounds-mem-1
-bounds-mem-1 c = let st = c in let a = st.args in let m = a.mem.now in let g = good_head m c.header-h.ensures c.in-Good.is in omega (arith, g.0.long, g.0.used, g.0.one)
-
 pub returns : goal.returns
-returns c = let st = c in let a = st.args in let m = a.mem.now in says m (λ t. length t.row) _ (λ u. count_row m u)
+returns c = let m = c.args.mem.now in says m (λ t. length t.row) _ (λ s. c.word.ensures s.sound ∙ count_row m s)

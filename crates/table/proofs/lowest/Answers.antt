@@ -1,33 +1,26 @@
 -- `table::lowest` meets its contract.
 use native.Mathlib.Omega.{arith}
-use Prim.Native.Nat.{◌<◌}
-use Rattle.ranges.specs.Align.{PowerOfTwo}
-use Rattle.ranges.proofs.Powers.{power_pos, proved, refuted}
-use Rattle.table.specs.Contract.{FindsLowest}
-use Rattle.table.proofs.Cuts.{good_head}
-use Rattle.table.proofs.Asking.{low_no_table, low_at, low_none}
-use borrow.Author.Rules.{rules}
+use Rattle.std.proofs.lemmas.Result.{err_from_is_err_and}
+use Rattle.ranges.proofs.Powers.{power_pos}
+use Rattle.table.proofs.Asking.{asked, low_refused, low_told}
 use Rattle.table.proofs.lowest.Goals as goal
 
-pub returns-then-size-eq0 : goal.returns-then-size-eq0
-unfolding FindsLowest
-returns-then-size-eq0 c = λ w. omega (arith, w.0)
+pub returns-in_err-nb : goal.returns-in_err-nb
+returns-in_err-nb c =
+    let a = c.args in
+    let p = err_from_is_err_and c.from_residual.result c.from_residual.ensures.1 in
+    rw (p.1, p.2) (low_refused a.mem.now a.size a.align _ c.in_err-nb.ensures)
 
-pub returns-then-not-is_power_of_two : goal.returns-then-not-is_power_of_two
-unfolding FindsLowest
-returns-then-not-is_power_of_two c = λ w. let a = c.args in refuted c.is_power_of_two.result (PowerOfTwo a.align) c.if-not-is_power_of_two.true c.is_power_of_two.ensures w.1
-
-pub returns-in_default : goal.returns-in_default
-returns-in_default c = let st = c in let a = st.args in let m = a.mem.now in let p = proved c.is_power_of_two.result (PowerOfTwo a.align) c.if-not-is_power_of_two.false c.is_power_of_two.ensures in let z : 0 < a.size = omega arith in low_no_table m a.size a.align (z, p) c.header-h.ensures c.in_default.is
+pub overflow_sub-size : goal.overflow_sub-size
+overflow_sub-size c = let a = c.args in let k = asked a.mem.now a.size a.align _ c.in_ok-nb.ensures in omega (arith, k.0.0, power_pos a.align k.0.1)
 
 pub overflow_sub-align : goal.overflow_sub-align
-overflow_sub-align c = let st = c in let a = st.args in let m = a.mem.now in let p = proved c.is_power_of_two.result (PowerOfTwo a.align) c.if-not-is_power_of_two.false c.is_power_of_two.ensures in let z : 0 < a.size = omega arith in power_pos a.align p
+overflow_sub-align c = let a = c.args in let k = asked a.mem.now a.size a.align _ c.in_ok-nb.ensures in omega (arith, k.0.0, power_pos a.align k.0.1)
 
-pub search_up-f-requires : goal.search_up-f-requires
-search_up-f-requires c = let st = c in let a = st.args in let m = a.mem.now in good_head m c.header-h.ensures c.in-Good.is
-
-pub returns-in_default-f : goal.returns-in_default-f
-returns-in_default-f c = let st = c in let a = st.args in let m = a.mem.now in let p = proved c.is_power_of_two.result (PowerOfTwo a.align) c.if-not-is_power_of_two.false c.is_power_of_two.ensures in let z : 0 < a.size = omega arith in low_none m a.size a.align (z, p) c.search_up-f.ensures c.in_default-f.is
+pub search_up-requires : goal.search_up-requires
+search_up-requires c = let a = c.args in let k = asked a.mem.now a.size a.align _ c.in_ok-nb.ensures in (k.1, k.2)
 
 pub returns : goal.returns
-returns c = let st = c in let a = st.args in let m = a.mem.now in let p = proved c.is_power_of_two.result (PowerOfTwo a.align) c.if-not-is_power_of_two.false c.is_power_of_two.ensures in let z : 0 < a.size = omega arith in low_at m a.size a.align (z, p) c.search_up-f.ensures c.in-At.is
+returns c =
+    let a = c.args in
+    rw c.ok_or.ensures.value (low_told a.mem.now a.size a.align (asked a.mem.now a.size a.align _ c.in_ok-nb.ensures).0 c.search_up.result c.search_up.ensures)

@@ -1,46 +1,69 @@
 -- `ids::exact::take` meets its contract: each refusal by the test that led there; the id's bit says whether it is granted (`bit_decides`), and changing it grants the id (`taking`).
-use native.Mathlib.Omega.{arith}
-use mathlib.Core.Path.{◌≡◌, refl, sym, ap, subst}
-use mathlib.Core.List.{List}
-use Prim.Native.Nat.{ℕ, ◌-◌}
-use Rattle.ids.specs.Layout.{Laid, Holds}
-use Rattle.ids.proofs.Refusals.{none_held}
-use lib.ListN.{set, length-set}
-use mathlib.Core.Logic.{inl, inr}
-use borrow.Rule.Slice.PartMut.{same_len_mid}
+use Rattle.std.proofs.Common.{◌≡◌, ℕ, ◌+◌, ◌-◌, max, List, Err, refl, sym, ap, ◌∙◌, inl, inr, subst, arith}
+use Rattle.std.proofs.lemmas.Grind.{common_steps}
+use Rattle.std.proofs.lemmas.Bool.Decides.{nat_tests}
+use lib.ListN.{get_or, set}
+use Rattle.ranges.specs.declared.Error.{Error}
+use Rattle.ranges.proofs.Powers.{proved, refuted}
 use Rattle.bits.proofs.Levels.{put_tail}
 use Rattle.ids.specs.State.{Within, grant}
+use Rattle.ids.specs.Layout.{Laid, Holds}
 use Rattle.ids.proofs.States.{bit_decides}
 use Rattle.ids.proofs.Tests.{not_true}
 use Rattle.ids.proofs.Taking.{taking}
-use Rattle.ranges.specs.Align.{Decides}
-use mathlib.Core.Bool.{Bool, true}
-use Rattle.ids.proofs.LastBits.{bit_last}
+use Rattle.ids.proofs.LastBits.{none_got, head_got, head_low, head_high, head_last}
 use Rattle.ids.proofs.exact.take.Goals as goal
 
-pub returns-then-mem-lt4 : goal.returns-then-mem-lt4
+pub returns-in_err-h : goal.returns-in_err-h
 unfolding Holds
-returns-then-mem-lt4 c = record { kept = refl; right = λ s h. absurd (omega (arith, h.long)) }
+returns-in_err-h c =
+    let e : c.from_residual.result ≡ Err Error.NoState = grind (arith, common_steps) in
+    rw e (record { kept = refl; right = λ s l. absurd (none_got _ _ _ _ c.ok_or.ensures.ok_part c.in_err-h.was c.head.ensures s l) })
 
-pub returns-in_default : goal.returns-in_default
+pub returns-then-x-h : goal.returns-then-x-h
 unfolding Holds
-returns-in_default c = record { kept = refl; right = λ s h. absurd (none_held _ c.last_bit.result c.in_default.is c.last_bit.ensures s h) }
-
-pub returns-then-x-low : goal.returns-then-x-low
-unfolding Holds
-returns-then-x-low c = record { kept = refl; right = λ s h. (inl (refl, λ w. omega (arith, h.low, w.0)), h) }
-
-pub returns-then-high-x : goal.returns-then-high-x
-unfolding Holds
-returns-then-high-x c = record { kept = refl; right = λ s h. (inl (refl, λ w. omega (arith, h.high, w.1)), h) }
+returns-then-x-h c =
+    let d = head_got _ _ _ _ c.ok_or.ensures.ok_part c.in_ok-h.was c.head.ensures in
+    record {
+      kept = refl;
+      right = λ s l. (inl (refl, λ w. omega (arith, head_low _ _ d s l, head_high _ _ d s l, w.0, w.1)), l);
+    }
 
 pub returns-then-is_set : goal.returns-then-is_set
 unfolding Holds
-returns-then-is_set c = record { kept = refl; right = λ s held. let h : Laid _ s = held in let w : Within s c.args.id = (omega (arith, h.low), omega (arith, h.high)) in (inr (refl, w, (subst (λ (b : Bool). Decides b (Within s c.args.id × (s.granted c.args.id ≡ true))) c.if-is_set.true (bit_decides c.args.mem.now s h c.is_set.result _ c.args.id h.low w c.is_set.ensures)).1), held) }
-
-pub shape_of-mem : goal.shape_of-mem
-shape_of-mem c = let kept = c.flip.auto.mem in rw same_len_mid (simp length-set)
+returns-then-is_set c =
+    let a = c.args in
+    let d = head_got _ _ _ _ c.ok_or.ensures.ok_part c.in_ok-h.was c.head.ensures in
+    record {
+      kept = refl;
+      right = λ s held.
+          let l : Laid _ s = held in
+          let low = head_low _ _ d s l in
+          let w : Within s a.id = (omega (arith, low), omega (arith, head_high _ _ d s l)) in
+          let g = proved c.is_set.result _ c.if-is_set.true (bit_decides a.mem.now s l c.is_set.result _ a.id low w c.is_set.ensures) in
+          (inr (refl, w, g.1), held);
+    }
 
 pub returns : goal.returns
 unfolding Holds
-returns c = let ws : List ℕ = c.args.mem.now in let up : List ℕ = c.flip.new.mem in let x = c.larger.result in record { kept = tt; right = λ s held. let h : Laid _ s = held in let w : Within s c.args.id = (omega (arith, h.low), omega (arith, h.high)) in let z = not_true (s.granted c.args.id) (λ g. subst (λ (b : Bool). Decides b (Within s c.args.id × (s.granted c.args.id ≡ true))) c.if-is_set.false (bit_decides c.args.mem.now s h c.is_set.result _ c.args.id h.low w c.is_set.ensures) (w, g)) in ((refl, (w, z)), subst (λ (v : List ℕ). Holds v (grant s c.args.id)) (sym (put_tail 4 (set ws 3 x) up)) (taking ws s h _ _ c.args.id x up (bit_last c.args.mem.now c.last_bit.result _ c.in-Bit.is c.last_bit.ensures s h) w (ap (λ (y : ℕ). c.args.id - y) h.low) z c.flip.ensures c.larger.ensures)) }
+returns c =
+    let a = c.args in
+    let ws : List ℕ = a.mem.now in
+    let up : List ℕ = c.flip.new.mem in
+    let d = head_got _ _ _ _ c.ok_or.ensures.ok_part c.in_ok-h.was c.head.ensures in
+    let x = c.max.result in
+    let m : x ≡ max c.in_ok-h.h.next (a.id + 1) = grind (arith, nat_tests) in
+    let most : x ≡ max (get_or ws 3 0) (a.id + 1) = m ∙ ap (λ (n : ℕ). max n (a.id + 1)) d.next in
+    record {
+      kept = tt;
+      right = λ s held.
+          let l : Laid _ s = held in
+          let low = head_low _ _ d s l in
+          let w : Within s a.id = (omega (arith, low), omega (arith, head_high _ _ d s l)) in
+          let z = not_true (s.granted a.id) (λ g. refuted c.is_set.result _ c.if-is_set.false
+          (bit_decides ws s l c.is_set.result _ a.id low w c.is_set.ensures) (w, g)) in (
+            (refl, (w, z)),
+            subst (λ (v : List ℕ). Holds v (grant s a.id)) (sym (put_tail 4 (set ws 3 x) up))
+                (taking ws s l _ _ a.id x up (head_last _ _ d s l) w (ap (λ (y : ℕ). a.id - y) low) z c.flip.ensures most),
+          );
+    }
