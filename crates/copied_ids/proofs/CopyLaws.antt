@@ -1,17 +1,19 @@
 -- Laws of `copy`, and what a caller has of it. From the public contracts and laws of `ids` alone.
 --     copy_none, copy_cut, copy_short, copy_done     the four ways in which `copy` ends
+--     put_more                                       one word more
 --     apart                                          of calls on two blocks in any order, those on one are answered as with no other block there
 --     untouched                                      so a block of which nothing is asked keeps its words
 --     copy_alike                                     a copy gives to the same calls the same answers, whatever is done to the other in between
 -- Assumes nothing.
 use Rattle.std.proofs.Common.{Option, Some, None, Ok, Err}
-use Prim.Native.Nat.{ℕ, ◌≤◌, ◌<◌}
+use Prim.Native.Nat.{ℕ, ◌+◌, ◌≤◌, ◌<◌}
 use mathlib.Core.Path.{◌≡◌, refl, ◌∙◌, subst}
 use mathlib.Core.Logic.{inl, inr}
-use mathlib.Core.List.{List, [], ◌∷◌, ◌++◌}
+use mathlib.Core.List.{List, [], ◌∷◌}
+use borrow.Author.Count.{below_more}
 use native.Mathlib.Omega.{arith}
-use lib.ListN.{length, take, drop, length-take, length-drop, length-append}
-use Rattle.std.proofs.lemmas.List.{get_or_append_left, get_or-take}
+use lib.ListN.{length, get_or, set}
+use lib.Seq.{get_or-set_same, get_or-set_other}
 use Rattle.ranges.specs.declared.Error.{Error}
 use Rattle.ids.specs.State.{State}
 use Rattle.ids.specs.Runs.{Event, questions, SameFuture}
@@ -24,13 +26,10 @@ use Rattle.ids.proofs.Chains.{chain_runs}
 use Rattle.copied_ids.specs.Copy.{Begins, Copies}
 use Rattle.copied_ids.specs.Two.{Turn, One, Other, Happen, ones, others}
 
--- the first k words, taken over
-taken_begins : (src dst : List ℕ) (k : ℕ) → k ≤ length src → Begins k src (take k src ++ drop k dst)
-taken_begins src dst k l i u =
-    get_or_append_left (take k src) (drop k dst) 0 i (omega (arith, length-take {A = ℕ})) ∙ get_or-take k src i 0 u
-
-taken_length : (src dst : List ℕ) (k : ℕ) → k ≤ length src → k ≤ length dst → length (take k src ++ drop k dst) ≡ length dst
-taken_length src dst k l d = omega (arith, length-append {A = ℕ}, length-take {A = ℕ}, length-drop {A = ℕ})
+-- one word more
+pub put_more : (src dst : List ℕ) (k : ℕ) → k < length dst → Begins k src dst → Begins (k + 1) src (set dst k (get_or src k 0))
+put_more src dst k l b =
+    below_more (λ (i : ℕ). get_or (set dst k (get_or src k 0)) i 0 ≡ get_or src i 0) k (λ i u. get_or-set_other dst k i (get_or src k 0) 0 (λ e. omega arith) ∙ b i u) (get_or-set_same dst k (get_or src k 0) 0 l)
 
 pub copy_none : (m n : List ℕ) (x : Option Interval) → Describes m x → x ≡ None → Copies m (Err Error.NoState) n n
 unfolding Copies
@@ -50,10 +49,9 @@ module _ (m n : List ℕ) (x : Option Interval) (w : Describes m x) (i : Interva
   unfolding Copies
   copy_short l = (refl, inr (refl, λ s h. (k, needed s h, l)))
 
-  pub copy_done : k ≤ length m → k ≤ length n → Copies m (Ok tt) n (take k m ++ drop k n)
+  pub copy_done : k ≤ length n → (n' : List ℕ) → length n' ≡ length n → Begins k m n' → Copies m (Ok tt) n n'
   unfolding Copies
-  copy_done l r s h =
-      ((k, needed s h, r), holds_words m (take k m ++ drop k n) s k h (needed s h) (omega (arith, taken_length m n k l r)) (taken_begins m n k l))
+  copy_done l n' same b s h = ((k, needed s h, l), holds_words m n' s k h (needed s h) (omega arith) b)
 
 -- ---- two blocks
 

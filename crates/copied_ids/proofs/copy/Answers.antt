@@ -24,4 +24,4 @@ returns-then-dst-n c =
 pub returns : goal.returns
 returns c =
     let s : c.bounds.result ≡ Some c.in_ok-interval.interval = search rules in
-    rw c.copy_from_slice.ensures.after (copy_done _ _ _ c.bounds.ensures _ _ s c.words_needed-n.ensures c.if-src-n.false c.if-dst-n.false)
+    copy_done _ _ _ c.bounds.ensures _ _ s c.words_needed-n.ensures c.if-dst-n.false _ c.put.ensures.long c.put.ensures.begins
