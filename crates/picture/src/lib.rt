@@ -5,7 +5,7 @@
 ghost use Rattle.std.specs.Prelude.{◌≡◌, ℕ, ◌+◌, ◌≤◌, ◌<◌, ◌^◌};
 ghost use Rattle.picture.specs.Bar.{Painted, Cleared, joined, size_of, Touched};
 
-// Clears every cell. A `for` and no `fill`, which sets the last cell apart: a bar is short, and that was a third of the time.
+// Clears every cell. A `for` and no `fill`, which sets the last cell apart: a bar is short, and clearing it took a third longer.
 pub fn clear(bar: &mut [u8])
     ensures { Cleared bar.new }
 {
